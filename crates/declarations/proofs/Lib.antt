@@ -4,5 +4,4 @@ pub mod Declared
 pub mod Chains
 pub mod Search
 pub mod Noting
-pub mod Threads
 pub mod Lines

@@ -19,8 +19,8 @@ use Rattle.vocabulary.specs.declared.Vocabulary.{Vocabulary}
 use Rattle.vocabulary.specs.Vocabulary.{name_in, Names}
 use Rattle.prop_lists.specs.Entries.{use_of}
 use Rattle.declarations.specs.declared.Declaration.{Declaration}
-use Rattle.declarations.specs.declared.Declarations.{Declarations}
-use Rattle.declarations.specs.Memory.{use_over, uses_over, use_in, declarations, declared_uses, is_declared, flag_of, flagged, Fresh, Noted, Declared, Held, Notes}
+use Rattle.declarations.specs.declared.Table.{Table}
+use Rattle.declarations.specs.Memory.{use_over, uses_over, use_in, declarations, declared_uses, is_declared, flag_of, flagged, Fresh, Noted, Declared, Room, Held, Notes}
 use Rattle.declarations.specs.Chains.{row, slot_of, Newest}
 use Rattle.declarations.proofs.Firsts.{occurs_append, occurs_firsts, firsts_known, firsts_new, eq_atom_use_true, eq_atom_use_refl, same_search}
 use Rattle.declarations.proofs.Declared.{flagged_few, flagged_more}
@@ -46,7 +46,7 @@ module _ (f : ℕ → Name) (l : List (AtomUse ℕ)) (a : AtomUse ℕ) where
   new e = rw one_more (firsts_new eq_atom_use eq_atom_use_true (uses_over f l) (use_over f a) e)
 
 -- among the declarations as among the uses
-module _ {N : ℕ} {f : ℕ → Name} {l : List (AtomUse ℕ)} {m : Declarations N} (noted : Noted f l m) where
+module _ {N : ℕ} {f : ℕ → Name} {l : List (AtomUse ℕ)} {m : Table N} (noted : Noted f l m) where
   looked_up : (u : AtomUse ℕ) → is_declared f (declarations m) u ≡ occurs eq_atom_use (use_over f u) (uses_over f l)
   looked_up u =
       same_search (use_over f u) (declared_uses f (declarations m))
@@ -66,7 +66,7 @@ module _ {N : ℕ} {f : ℕ → Name} {l : List (AtomUse ℕ)} {m : Declarations
       (noted.flags n c h (sym (get_or-set_other m.seen (flag_of name count) (flag_of n c) true false other) ∙ is_set)))
 
 -- before anything is noted
-module _ {N : ℕ} {m : Declarations N} (fresh : Fresh m) where
+module _ {N : ℕ} {m : Table N} (fresh : Fresh m) where
   unseen_at : (i : ℕ) → get_or m.seen i false ≡ false
   unseen_at i = rw fresh.unseen (by_cases (dec_lt i N)
       (λ h. get_or-replicate N i false false h)
@@ -76,15 +76,11 @@ module _ {N : ℕ} {m : Declarations N} (fresh : Fresh m) where
   unfolding firsts firsts_after
   fresh_noted f = record { entries = rw fresh.none refl; flags = λ name count few is_set. cc (unseen_at (flag_of name count)) }
 
-  pub fresh_held : {bytes : List ℕ} {v : Vocabulary} → ((name : ℕ) → name < v.name_count → Names bytes v name) → v.name_count ≤ 65536
-      → flag_of v.name_count 0 ≤ N → N < 65536 → Held bytes v m
-  fresh_held names small flags numbered =
+  pub fresh_held : {bytes : List ℕ} {v : Vocabulary} → Room bytes v N → Held bytes v m
+  fresh_held room =
       let none = fresh.none in
       record {
-        names = names;
-        small = small;
-        flags = flags;
-        numbered = numbered;
+        room = room;
         within = omega arith;
         named = λ j below. absurd (omega arith);
         few = omega arith;
@@ -96,7 +92,7 @@ module _ {N : ℕ} {m : Declarations N} (fresh : Fresh m) where
       }
 
 -- what is held are declarations
-pub declared_held : {N : ℕ} {bytes : List ℕ} {v : Vocabulary} {m : Declarations N} → Held bytes v m → Declared bytes v (declarations m)
+pub declared_held : {N : ℕ} {bytes : List ℕ} {v : Vocabulary} {m : Table N} → Held bytes v m → Declared bytes v (declarations m)
 declared_held {m = m} held =
     record {
       named = λ j h.
@@ -108,21 +104,20 @@ declared_held {m = m} held =
 pub slot_below : {slot : ℕ} (x : Name) → slot ≡ start_slot x → slot < slot_count
 slot_below x is-slot = rw is-slot (start_slot_below x)
 
-pub newest_of : {N : ℕ} {bytes : List ℕ} {v : Vocabulary} {m : Declarations N} {slot : ℕ} (x : Name) → Held bytes v m → slot ≡ start_slot x
+pub newest_of : {N : ℕ} {bytes : List ℕ} {v : Vocabulary} {m : Table N} {slot : ℕ} (x : Name) → Held bytes v m → slot ≡ start_slot x
     → Newest (slot_of (name_in bytes v) m.rows) (start_slot x) m.len (get_or m.newest slot None)
 newest_of x held is-slot = rw is-slot (held.chained.begins _ (start_slot_below x))
 
-module _ {N : ℕ} {bytes : List ℕ} {v : Vocabulary} {m : Declarations N} {name count : ℕ} (held : Held bytes v m) (below : name < v.name_count)
+module _ {N : ℕ} {bytes : List ℕ} {v : Vocabulary} {m : Table N} {name count : ℕ} (held : Held bytes v m) (below : name < v.name_count)
     (few : count ≤ parameter_limit) where
   -- the use has its flag
   pub has_flag : flag_of name count < N
   unfolding parameter_limit
-  has_flag = omega (arith, held.flags)
+  has_flag = omega (arith, held.room.flags)
 
   -- the flag is set
-  pub noted_again : get_or m.seen (flag_of name count) false ≡ true → Notes bytes v (use_of name count ∷ []) m m
+  pub noted_again : get_or m.seen (flag_of name count) false ≡ true → Notes (name_in bytes v) (use_of name count ∷ []) m m
   noted_again is_set = record {
-    held = held;
     adds = λ l noted. record {
       entries = noted.entries ∙ sym (known _ l (use_of name count) (noted.flags name count few is_set));
       flags = λ n c h k. stays _ l (use_of name count) _ (noted.flags n c h k);
@@ -142,19 +137,15 @@ module _ {N : ℕ} {bytes : List ℕ} {v : Vocabulary} {m : Declarations N} {nam
         omega (arith, counted, held.few, most, sized)
 
     -- a declaration has the bytes and the count
+    abbrev pub flag_set : Table N
+    flag_set = record m { seen = set m.seen (flag_of name count) true }
+
+    pub held_known : Held bytes v flag_set
+    held_known = record { room = held.room; within = held.within; named = held.named; few = omega (arith, counted, held.few); chained = held.chained }
+
     pub noted_known : is_declared (name_in bytes v) (declarations m) (use_of name count) ≡ true
-        → Notes bytes v (use_of name count ∷ []) m (record m { seen = set m.seen (flag_of name count) true })
+        → Notes (name_in bytes v) (use_of name count ∷ []) m flag_set
     noted_known e = record {
-      held = record {
-        names = held.names;
-        small = held.small;
-        flags = held.flags;
-        numbered = held.numbered;
-        within = held.within;
-        named = held.named;
-        few = omega (arith, counted, held.few);
-        chained = held.chained;
-      };
       adds = λ l noted. record {
         entries = noted.entries ∙ sym (known _ l (use_of name count) (sym (looked_up noted _) ∙ e));
         flags = flags_more noted name count few;
@@ -177,7 +168,7 @@ module _ {N : ℕ} {bytes : List ℕ} {v : Vocabulary} {m : Declarations N} {nam
       named_stored : (j : ℕ) → j < m.len + 1 → Names bytes v (row stored j).name
       named_stored j h = by_cases (dec_lt j m.len)
           (λ k. rw (kept_below j k) (held.named j k))
-          (λ k. let last : j ≡ m.len = omega arith in rw (last, last_stored) (held.names name below))
+          (λ k. let last : j ≡ m.len = omega arith in rw (last, last_stored) (held.room.names name below))
 
       -- the declarations so far, and this one
       stored_uses : declared_uses (name_in bytes v) (take (m.len + 1) stored)
@@ -187,32 +178,36 @@ module _ {N : ℕ} {bytes : List ℕ} {v : Vocabulary} {m : Declarations N} {nam
           ap (declared_uses (name_in bytes v)) (take_more_set m.rows m.len (record { name = name; count = count }) (omega (arith, room_for_one)))
           ∙ map-append (use_in (name_in bytes v)) (declarations m) (record { name = name; count = count } ∷ [])
 
-      pub noted_new : {slot : ℕ} → slot ≡ start_slot (name_in bytes v name) → length m.newest ≡ slot_count → length m.older ≡ N → is_declared (name_in bytes v) (declarations m) (use_of name count) ≡ false
-          → Notes bytes v (use_of name count ∷ []) m (record {
-            rows = set m.rows m.len (record { name = name; count = count });
-            len = m.len + 1;
-            seen = set m.seen (flag_of name count) true;
-            newest = set m.newest slot (Some m.len);
-            older = set m.older m.len (get_or m.newest slot None);
-          })
-      unfolding stored
-      noted_new is-slot heads links e = record {
-        held = record {
-          names = held.names;
-          small = held.small;
-          flags = held.flags;
-          numbered = held.numbered;
+      module _ {slot : ℕ} (is-slot : slot ≡ start_slot (name_in bytes v name)) where
+        abbrev pub with_one_more : Table N
+        with_one_more = record {
+          rows = set m.rows m.len (record { name = name; count = count });
+          len = m.len + 1;
+          seen = set m.seen (flag_of name count) true;
+          newest = set m.newest slot (Some m.len);
+          older = set m.older m.len (get_or m.newest slot None);
+        }
+
+        pub held_new : length m.newest ≡ slot_count → length m.older ≡ N → Held bytes v with_one_more
+        unfolding stored
+        held_new heads links = record {
+          room = held.room;
           within = omega (arith, room_for_one);
           named = named_stored;
           few = omega (arith, counted, held.few);
           chained = chained_more (λ j h. ap (λ d. start_slot (name_in bytes v d.name)) (kept_below j h)) held.chained (slot_below (name_in bytes v name) is-slot)
               (ap (λ d. start_slot (name_in bytes v d.name)) last_stored ∙ sym is-slot) (omega (arith, slot_below (name_in bytes v name) is-slot)) (omega (arith, room_for_one));
-        };
-        adds = λ l noted. record {
-          entries =
-              stored_uses
-              ∙ (ap (λ es. es ++ (use_over (name_in bytes v) (use_of name count) ∷ [])) noted.entries
-              ∙ sym (new _ l (use_of name count) (sym (looked_up noted _) ∙ e)));
-          flags = flags_more noted name count few;
-        };
-      }
+        }
+
+        pub noted_new : is_declared (name_in bytes v) (declarations m) (use_of name count) ≡ false
+            → Notes (name_in bytes v) (use_of name count ∷ []) m with_one_more
+        unfolding stored
+        noted_new e = record {
+          adds = λ l noted. record {
+            entries =
+                stored_uses
+                ∙ (ap (λ es. es ++ (use_over (name_in bytes v) (use_of name count) ∷ [])) noted.entries
+                ∙ sym (new _ l (use_of name count) (sym (looked_up noted _) ∙ e)));
+            flags = flags_more noted name count few;
+          };
+        }

@@ -2,3 +2,4 @@
 pub mod Chains
 pub mod Memory
 pub mod Lines
+pub mod Noted

@@ -9,7 +9,7 @@ use Rattle.vocabulary.specs.declared.Vocabulary.{Vocabulary}
 use Rattle.vocabulary.specs.Vocabulary.{name_in, Names}
 use Rattle.prop_lists.specs.Entries.{use_of}
 use Rattle.declarations.specs.declared.Declaration.{Declaration}
-use Rattle.declarations.specs.declared.Declarations.{Declarations}
+use Rattle.declarations.specs.declared.Table.{Table}
 use Rattle.declarations.specs.Chains.{row, slot_of, Chained}
 
 -- a use and a list of them, over the bytes of the names
@@ -44,17 +44,17 @@ flagged (a ∷ seen) = cond a 1 0 + flagged seen
 
 module _ {N : ℕ} where
   -- the declarations so far
-  abbrev pub declarations : Declarations N → List Declaration
+  abbrev pub declarations : Table N → List Declaration
   declarations m = take m.len m.rows
 
   -- nothing is noted
-  pub record Fresh (m : Declarations N) : Type 0 where
+  pub record Fresh (m : Table N) : Type 0 where
     pub none : m.len ≡ 0
     pub unseen : m.seen ≡ replicate N false
     pub unchained : m.newest ≡ replicate slot_count None
 
   -- the declarations are the first occurrences among the uses l, by name bytes and count; a flag that is set stands for one of l
-  pub record Noted (f : ℕ → Name) (l : List (AtomUse ℕ)) (m : Declarations N) : Type 0 where
+  pub record Noted (f : ℕ → Name) (l : List (AtomUse ℕ)) (m : Table N) : Type 0 where
     pub entries : declared_uses f (declarations m) ≡ firsts eq_atom_use (uses_over f l)
     pub flags : (name count : ℕ) → count ≤ parameter_limit → get_or m.seen (flag_of name count) false ≡ true
         → occurs eq_atom_use (use_over f (use_of name count)) (uses_over f l) ≡ true
@@ -69,20 +69,21 @@ module _ (bytes : List ℕ) (v : Vocabulary) where
   pub record Declared (declared : List Declaration) : Type 0 where
     pub named : (j : ℕ) → j < length declared → Names bytes v (row declared j).name
 
-  module _ {N : ℕ} where
-    -- every name has its flags, and each declaration stands for a flag that is set, so that there is room for as many as there are flags;
-    -- the declarations are chained
-    pub record Held (m : Declarations N) : Type 0 where
-      pub names : (name : ℕ) → name < v.name_count → Names bytes v name
-      pub small : v.name_count ≤ 65536
-      pub flags : flag_of v.name_count 0 ≤ N
-      pub numbered : N < 65536
-      pub within : m.len ≤ N
-      pub named : (j : ℕ) → j < m.len → Names bytes v (row m.rows j).name
-      pub few : m.len ≤ flagged m.seen
-      pub chained : Chained (slot_of (name_in bytes v) m.rows) m.len m.newest m.older
+  -- every name has its flags among N
+  pub record Room (N : ℕ) : Type 0 where
+    pub names : (name : ℕ) → name < v.name_count → Names bytes v name
+    pub small : v.name_count ≤ 65536
+    pub flags : flag_of v.name_count 0 ≤ N
+    pub numbered : N < 65536
 
-    -- what it is to note uses: whichever uses were noted before, afterwards these are too, behind them
-    pub record Notes (uses : List (AtomUse ℕ)) (m m' : Declarations N) : Type 0 where
-      pub held : Held m'
-      pub adds : (l : List (AtomUse ℕ)) → Noted (name_in bytes v) l m → Noted (name_in bytes v) (l ++ uses) m'
+  -- each declaration stands for a flag that is set, so that there is room for as many as there are flags; the declarations are chained
+  pub record Held {N : ℕ} (m : Table N) : Type 0 where
+    pub room : Room N
+    pub within : m.len ≤ N
+    pub named : (j : ℕ) → j < m.len → Names bytes v (row m.rows j).name
+    pub few : m.len ≤ flagged m.seen
+    pub chained : Chained (slot_of (name_in bytes v) m.rows) m.len m.newest m.older
+
+-- what it is to note uses, by their names' bytes: whichever uses were noted before, afterwards these are too, behind them
+pub record Notes (f : ℕ → Name) {N : ℕ} (uses : List (AtomUse ℕ)) (m m' : Table N) : Type 0 where
+  pub adds : (l : List (AtomUse ℕ)) → Noted f l m → Noted f (l ++ uses) m'

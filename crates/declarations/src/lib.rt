@@ -5,12 +5,10 @@
 
 ghost use Rattle.std.specs.Prelude.{◌≡◌, [], ◌∷◌, ◌≤◌, ◌<◌, ◌&&◌, eqb, length};
 ghost use Rattle.definitions.specs.Name.{eq_name};
-ghost use Rattle.definitions.specs.Code.{parameter_limit};
 ghost use Rattle.definitions.specs.NameIndex.{start_slot};
-ghost use Rattle.vocabulary.specs.Vocabulary.{name_in, prop_in, Names, SomeProposition};
-ghost use Rattle.prop_lists.specs.Entries.{use_of, entries};
-ghost use Rattle.proof_term_lists.specs.Labels.{term_uses, added_uses, AddedStands, Listable, term_in};
-ghost use Rattle.declarations.specs.Memory.{use_in, declarations, declared_uses, is_declared, Declared, Counted, Fresh, Held, Notes};
+ghost use Rattle.vocabulary.specs.Vocabulary.{name_in, Names};
+ghost use Rattle.prop_lists.specs.Entries.{use_of};
+ghost use Rattle.declarations.specs.Memory.{use_in, declarations, declared_uses, is_declared, Declared, Counted, Fresh, Room, Held};
 ghost use Rattle.declarations.specs.Lines.{count_text, break_before, declaration, declaration_lines};
 
 use definitions::TermList;
@@ -18,24 +16,22 @@ use identifier::same_name;
 use name_index::{SLOT_COUNT, start_slot};
 use output::Sink;
 use output::sink::put_decimal;
-use prefix_code::{PARAMETER_LIMIT, scan};
-use proof_term::Label;
-use proof_term_lists::record_adds;
-use prop_lists::next_entry;
-use vocabulary::{Vocabulary, code_of};
+use prefix_code::PARAMETER_LIMIT;
+use prop_lists::UseSink;
+use vocabulary::Vocabulary;
 
 // The flags of a name: one for each count of parameters from 0 on.
 const NAME_FLAGS: usize = PARAMETER_LIMIT as usize + 1;
 
-// A declaration: the number of a name, and a count.
+// A declaration: the number of a name, and a count, in 16 bits each, since the stack holds as many as there are flags.
 #[derive(Clone, Copy, Default)]
 pub struct Declaration {
     pub name: u16,
     pub count: u16,
 }
 
-// The functions below take a memory and its vocabulary as two parameters: as fields of one struct, `name_in bytes.now v` would read
-// `name_in names.entry.bytes.now names.entry.v` in each clause.
+// Where no declarations are at hand a memory and its vocabulary are two parameters: as fields of one struct, `name_in bytes.now v` would
+// read `name_in names.entry.bytes.now names.entry.v` in each clause.
 
 // Whether a declaration has this count and the bytes of this name. The counts are compared first, so that few names are.
 fn has(other: Declaration, name: usize, count: usize, bytes: &[u8], v: Vocabulary) -> bool
@@ -50,7 +46,7 @@ fn has(other: Declaration, name: usize, count: usize, bytes: &[u8], v: Vocabular
 // The declarations so far: the first `len` of N rows. Whether a use was noted, by its name's number and its count. The declarations of a
 // start slot in a chain: its newest, and behind each the next older one.
 #[derive(Drop)]
-pub struct Declarations<const N: usize> {
+pub struct Table<const N: usize> {
     rows: [Declaration; N],
     len: usize,
     seen: [bool; N],
@@ -58,128 +54,96 @@ pub struct Declarations<const N: usize> {
     older: [Option<u16>; N],
 }
 
-impl<const N: usize> Declarations<N> {
+// Declarations of the names of a memory: as a sink of uses they note each one that they are without.
+#[derive(Drop)]
+pub struct Declarations<'a, const N: usize> {
+    bytes: &'a [u8],
+    v: Vocabulary,
+    table: Table<N>,
+    pub ghost held: { Held bytes.now v table },
+}
+
+// A table without declarations.
+fn empty<const N: usize>() -> Table<N>
+    ensures { Fresh result }
+{
+    Table {
+        rows: [Declaration::default(); N],
+        len: 0,
+        seen: [false; N],
+        newest: [None; SLOT_COUNT],
+        older: [None; N],
+    }
+}
+
+impl<'a, const N: usize> Declarations<'a, N> {
     // No declarations.
-    pub fn new() -> Self
-        ensures { Fresh result }
+    pub fn new(bytes: &'a [u8], v: Vocabulary) -> Self
+        requires { Room bytes.now v N }
+        ensures { Fresh result.table × (result.bytes.now ≡ bytes.now) × (result.v ≡ v) }
     {
-        Declarations {
-            rows: [Declaration::default(); N],
-            len: 0,
-            seen: [false; N],
-            newest: [None; SLOT_COUNT],
-            older: [None; N],
-        }
+        let table = empty();
+        Declarations { bytes, v, table }
     }
 
     // The declarations, the oldest first.
     pub fn declared(&self) -> &[Declaration]
-        requires { self.now.len ≤ N }
-        ensures { (result.now ≡ declarations self.now) × (length result.now ≡ self.now.len) }
+        ensures { (result.now ≡ declarations self.now.table) × (length result.now ≡ self.now.table.len) }
     {
-        &self.rows[..self.len]
+        &self.table.rows[..self.table.len]
     }
 
-    // Whether a declaration has this count and the bytes of this name. The search goes from the newest of the name's slot to older ones,
-    // and where their chain ends is not known before: so it is a `while let`.
+    // Whether a declaration has this count and the bytes of this name. The search goes from the newest of the name's slot to older ones.
+    // By `successors` it would have to be shown of a whole run that it ends; the loop's measure says it of one step.
     #[tactic(auto, unfolding(definitions::specs::NameIndex::slot_count), using(crate::proofs::Noting::slot_below))]
-    fn is_declared(
-        &self,
-        slot: usize,
-        name: usize,
-        count: usize,
-        bytes: &[u8],
-        v: Vocabulary,
-    ) -> bool
-        requires held { Held bytes.now v self.now }
-        requires named { Names bytes.now v name × (slot ≡ start_slot (name_in bytes.now v name)) }
-        ensures { result ≡ is_declared (name_in bytes.now v) (declarations self.now) (use_of name count) }
+    fn is_declared(&self, slot: usize, name: usize, count: usize) -> bool
+        requires known { name < self.now.v.name_count }
+        requires its_slot { slot ≡ start_slot (name_in self.now.bytes.now self.now.v name) }
+        ensures { result ≡ is_declared (name_in self.now.bytes.now self.now.v) (declarations self.now.table) (use_of name count) }
     {
-        let mut next = self.newest[slot];
+        let mut next = self.table.newest[slot];
         while let Some(j) = next {
             let j = usize::from(j);
-            if has(self.rows[j], name, count, bytes, v) {
+            if has(self.table.rows[j], name, count, self.bytes, self.v) {
                 return true;
             }
-            next = self.older[j];
+            next = self.table.older[j];
         }
         false
     }
+}
+
+impl<'a, const N: usize> UseSink for Declarations<'a, N> {
+    ghost use Rattle.declarations.specs.Noted.{DeclarationsPut, declarations_laws};
+
+    ghost puts = { DeclarationsPut };
+
+    ghost knows = { λ m name. name < m.v.name_count };
+
+    ghost laws = { declarations_laws };
 
     // Adds a use, unless a declaration has its name bytes and count. A use that was noted under the same number is known by its flag,
     // so the search runs once for each number and count. A new declaration is put before the chain of its slot.
     #[tactic(auto, unfolding(definitions::specs::NameIndex::slot_count), using(crate::proofs::Noting::slot_below))]
-    fn note(&mut self, name: usize, count: usize, bytes: &[u8], v: Vocabulary)
-        requires held { Held bytes.now v self.old }
-        requires name_bound { (name < v.name_count) × (count ≤ parameter_limit) }
-        ensures { Notes bytes.now v (use_of name count ∷ []) self.old self.new }
-    {
+    fn put_use(&mut self, name: usize, count: usize) {
         let flag = NAME_FLAGS * name + count;
-        if self.seen[flag] {
+        if self.table.seen[flag] {
             return;
         }
-        let slot = start_slot(vocabulary::name(bytes, v, name));
-        let known = self.is_declared(slot, name, count, bytes, v);
-        self.seen[flag] = true;
+        let slot = start_slot(vocabulary::name(self.bytes, self.v, name));
+        let known = self.is_declared(slot, name, count);
+        self.table.seen[flag] = true;
         if known {
             return;
         }
-        self.rows[self.len] = Declaration {
+        let len = self.table.len;
+        self.table.rows[len] = Declaration {
             name: name as u16,
             count: count as u16,
         };
-        self.older[self.len] = self.newest[slot];
-        self.newest[slot] = Some(self.len as u16);
-        self.len += 1;
-    }
-
-    // Notes the entries in a list of the proposition at an offset of the code. `next_entry` says of each what is left behind it; an iterator
-    // would say the same in ghost members of its own.
-    pub fn note_entries(&mut self, bytes: &[u8], v: Vocabulary, at: usize, list: TermList)
-        requires some_proposition { SomeProposition bytes.now v at }
-        requires held { Held bytes.now v self.old }
-        ensures { Notes bytes.now v (entries list (prop_in bytes.now v at)) self.old self.new }
-    {
-        let code = code_of(bytes, v);
-        let names = v.name_count;
-        let end = scan(code, at, names);
-        let mut i = at;
-        while let Some(entry) = next_entry(code, i, end, names, list) {
-            self.note(entry.name, entry.count, bytes, v);
-            i = entry.next;
-        }
-    }
-
-    // Notes what a record adds to a list.
-    fn note_added(&mut self, added: Option<Label>, list: TermList, bytes: &[u8], v: Vocabulary)
-        requires added_stands { AddedStands bytes.now v added }
-        requires held { Held bytes.now v self.old }
-        ensures { Notes bytes.now v (added_uses bytes.now v list added) self.old self.new }
-    {
-        match added {
-            None => {}
-            Some(Label::Datatype(name)) => self.note(usize::from(name), 0, bytes, v),
-            Some(Label::Proposition(at)) => self.note_entries(bytes, v, usize::from(at), list),
-        }
-    }
-
-    // Notes a list of the term that record `n` holds: what the label of each record up to it adds, which is asked by the record's number.
-    pub fn note_term(
-        &mut self,
-        term_records: &[u16],
-        n: usize,
-        list: TermList,
-        bytes: &[u8],
-        v: Vocabulary,
-    )
-        requires listable { Listable bytes.now v term_records.now n }
-        requires held { Held bytes.now v self.old }
-        ensures { Notes bytes.now v
-            (term_uses list (term_in bytes.now v term_records.now n)) self.old self.new }
-    {
-        for m in 0..=n {
-            self.note_added(record_adds(term_records, m, list), list, bytes, v);
-        }
+        self.table.older[len] = self.table.newest[slot];
+        self.table.newest[slot] = Some(len as u16);
+        self.table.len += 1;
     }
 }
 

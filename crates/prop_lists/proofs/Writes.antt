@@ -1,39 +1,27 @@
--- Entries are put one after another: once what is left of them is put, all of them are.
+-- Uses are put one after another: once what is left of them is put, all of them are.
 use Prim.Native.Nat.{ℕ}
-use mathlib.Core.Path.{◌≡◌, refl}
-use mathlib.Core.List.{List, [], ◌∷◌, ◌++◌}
-use Rattle.definitions.specs.declared.TermList.{TermList}
-use Rattle.definitions.specs.declared.TermList.TheVariants.{Atoms, Datatypes}
+use mathlib.Core.Path.{◌≡◌, refl, sym, ◌∙◌}
+use mathlib.Core.List.{List, [], ◌∷◌, ◌++◌, append_assoc, append-nil}
 use Rattle.definitions.specs.Prop.{AtomUse}
-use Rattle.definitions.specs.Answers.{atom_numbers}
-use Rattle.output.specs.SinkLaws.{SinkLaws}
-use Rattle.prop_lists.specs.Entries.{entry_numbers}
+use Rattle.prop_lists.specs.UseSinkLaws.{UseSinkLaws}
 
--- entries joined have their numbers joined
-pub numbers_join : (list : TermList) (a b : List (AtomUse ℕ)) → entry_numbers list (a ++ b) ≡ entry_numbers list a ++ entry_numbers list b
-unfolding entry_numbers atom_numbers
-numbers_join Atoms [] b = refl
-numbers_join Atoms (e ∷ a) b = rw (numbers_join Atoms a b)
-numbers_join (Datatypes v) [] b = refl
-numbers_join (Datatypes v) (e ∷ a) b = rw (numbers_join (Datatypes v) a b)
+-- some of the uses are put, and the rest are left
+pub record Left {S : Type 0} (puts : S → List (AtomUse ℕ) → S → Type 0) (all rest : List (AtomUse ℕ)) (before mid : S) : Type 0 where
+  pub done : List (AtomUse ℕ)
+  pub split : all ≡ done ++ rest
+  pub put : puts before done mid
 
--- no entry has no number
-pub no_numbers : (list : TermList) → entry_numbers list [] ≡ []
-unfolding entry_numbers atom_numbers
-no_numbers Atoms = refl
-no_numbers (Datatypes v) = refl
+module _ {S : Type 0} {puts : S → List (AtomUse ℕ) → S → Type 0} {knows : S → ℕ → Type 0} (laws : UseSinkLaws puts knows) {all : List (AtomUse ℕ)} {before : S} where
+  pub all_left : Left puts all all before before
+  all_left = record { done = []; split = refl; put = laws.none before }
 
--- some of the entries are put, and the rest are left
-pub record Left {S : Type 0} (puts : S → List ℕ → S → Type 0) (list : TermList) (all rest : List (AtomUse ℕ)) (before mid : S) : Type 0 where
-  pub put : (after : S) → puts mid (entry_numbers list rest) after → puts before (entry_numbers list all) after
+  pub one_less : {u : AtomUse ℕ} {rest : List (AtomUse ℕ)} {mid after : S} → Left puts all (u ∷ rest) before mid
+      → puts mid (u ∷ []) after → Left puts all rest before after
+  one_less {u} {rest} l w = record {
+    done = l.done ++ (u ∷ []);
+    split = l.split ∙ sym (append_assoc l.done (u ∷ []) rest);
+    put = laws.then l.put w;
+  }
 
-module _ {S : Type 0} {puts : S → List ℕ → S → Type 0} (laws : SinkLaws puts) {list : TermList} {all : List (AtomUse ℕ)} {before : S} where
-  pub all_left : Left puts list all all before before
-  all_left = record { put = λ after w. w }
-
-  pub one_less : {e : AtomUse ℕ} {rest : List (AtomUse ℕ)} {mid after : S} → Left puts list all (e ∷ rest) before mid
-      → puts mid (entry_numbers list (e ∷ [])) after → Left puts list all rest before after
-  one_less {e} {rest} l w = record { put = λ after v. l.put after (rw (numbers_join list (e ∷ []) rest) (laws.then w v)) }
-
-  pub none_left : {mid : S} → Left puts list all [] before mid → puts before (entry_numbers list all) mid
-  none_left {mid} l = l.put mid (rw (no_numbers list) (laws.none mid))
+  pub none_left : {mid : S} → Left puts all [] before mid → puts before all mid
+  none_left l = rw (l.split, append-nil) l.put

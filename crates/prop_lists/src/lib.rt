@@ -2,11 +2,14 @@
 // repeats. One walk over the heads of its code hands them out.
 #![tactic(auto)]
 
-ghost use Rattle.std.specs.Prelude.{◌≡◌, [], ◌∷◌, ◌<◌};
+ghost use Rattle.std.specs.Prelude.{◌≡◌, ℕ, List, [], ◌∷◌, ◌<◌, ◌≤◌, ⊤};
+ghost use Rattle.definitions.specs.Prop.{AtomUse};
+ghost use Rattle.definitions.specs.Code.{parameter_limit};
 ghost use Rattle.prefix_code.specs.Shape.{head_byte};
 ghost use Rattle.vocabulary.specs.Vocabulary.{prop_in, SomeProposition};
 ghost use Rattle.prop_lists.specs.Row.{Row};
-ghost use Rattle.prop_lists.specs.Entries.{use_of, entries, entry_numbers, has_entry, NextHead, GivesEntry};
+ghost use Rattle.prop_lists.specs.Entries.{use_of, entries, has_entry, NextHead, GivesEntry};
+ghost use Rattle.prop_lists.specs.UseSinkLaws.{UseSinkLaws};
 
 use definitions::TermList;
 use number::number_at;
@@ -14,16 +17,16 @@ use output::Sink;
 use prefix_code::{Head, head_end, scan};
 use vocabulary::{Vocabulary, code_of};
 
-// Code, a place in it, the end of a row, the count of names and the list stand loose, as in prefix_code: the place moves from call to call,
-// and in a struct of the other four each clause would read `Row walk.names walk.code.now at walk.end` for `Row names code.now at end`. A
-// memory and its vocabulary stand loose for the reason that vocabulary gives.
+// Code, the end of a row, the count of names and the list stand loose: a struct of the four, with a relation of its own over it, would
+// serve the two private steps of one walk. A memory and its vocabulary stand loose for the reason that vocabulary gives.
 
-// An entry of a list: the number of a name, an atom's parameter count or 0 for a datatype, and the position after its head.
+// An entry of a list: the number of a name, an atom's parameter count or 0 for a datatype, and the position after its head. The count is
+// no Option: a datatype is declared as the use of a name with the count 0, so the 0 is what a None would be turned into at once.
 #[derive(Clone, Copy)]
-pub struct Entry {
-    pub name: usize,
-    pub count: usize,
-    pub next: usize,
+struct Entry {
+    name: usize,
+    count: usize,
+    next: usize,
 }
 
 // Has this head an entry in the list? The head is all that the walk asks for at most places; a Shape would also read the numbers
@@ -54,9 +57,9 @@ fn next_head(code: &[u8], at: usize, end: usize, names: usize, list: TermList) -
 }
 
 // The next entry at or after `at`, before `end`, if there is one: an atom's name and count stand behind its byte, a datatype's name behind the
-// object's. The walks over it keep their position themselves: a step of an iterator would have to promise that code, end, names and
-// list stay and that a row stands at the new position, which the invariant of a walk says in a line.
-pub fn next_entry(code: &[u8], at: usize, end: usize, names: usize, list: TermList) -> Option<Entry>
+// object's. The walk keeps its position itself: a step of an iterator would have to promise that code, end, names and list stay and
+// that a row stands at the new position, which the invariant of the walk says in a line.
+fn next_entry(code: &[u8], at: usize, end: usize, names: usize, list: TermList) -> Option<Entry>
     requires { Row names code.now at end }
     ensures { GivesEntry names list code.now at end result }
 {
@@ -82,35 +85,63 @@ pub fn next_entry(code: &[u8], at: usize, end: usize, names: usize, list: TermLi
     }
 }
 
-// The numbers of an entry: an atom's name and count, a datatype's name.
-pub fn put_entry<S: Sink<u16>>(sink: &mut S, list: TermList, name: usize, count: usize)
-    requires { (name < 65536) × (count < 65536) }
-    ensures { S.puts sink.old (entry_numbers list (use_of name count ∷ [])) sink.new }
-{
-    sink.put(name as u16);
-    match list {
-        TermList::Atoms => sink.put(count as u16),
-        TermList::Datatypes(_) => {}
+// What uses of names are put into, one after another. It is no `Sink`, whose `put` takes every element: declarations have flags for the
+// names of their memory alone, so a use is put where its name is known.
+pub trait UseSink {
+    // A sink, the uses that are put into it, and the sink after that.
+    ghost puts: { Self → List (AtomUse ℕ) → Self → Type 0 };
+
+    // Whether a sink knows a name, by its number.
+    ghost knows: { Self → ℕ → Type 0 };
+
+    // One use: the number of a name, and an atom's parameter count or 0 for a datatype.
+    fn put_use(&mut self, name: usize, count: usize)
+        requires known { knows self.old name }
+        requires bounds { (name < 65536) × (count ≤ parameter_limit) }
+        ensures { puts self.old (use_of name count ∷ []) self.new };
+
+    // What is put in turn is put together, and the names that a sink knows stay known.
+    ghost laws: { UseSinkLaws puts knows };
+}
+
+// A sink of uses that puts the numbers of each into another: an atom's name and count, a datatype's name.
+#[derive(Drop)]
+pub struct Numbers<'a, S> {
+    pub sink: &'a mut S,
+    pub list: TermList,
+}
+
+impl<'a, S: Sink<u16>> UseSink for Numbers<'a, S> {
+    ghost use Rattle.prop_lists.specs.Numbered.{NumbersPut, numbers_laws};
+
+    ghost puts = { NumbersPut S.puts };
+
+    ghost knows = { λ _ _. ⊤ };
+
+    ghost laws = { numbers_laws S.laws };
+
+    #[tactic(auto, unfolding(definitions::specs::Code::parameter_limit, crate::specs::Entries::entry_numbers))]
+    fn put_use(&mut self, name: usize, count: usize) {
+        self.sink.put(name as u16);
+        match self.list {
+            TermList::Atoms => self.sink.put(count as u16),
+            TermList::Datatypes(_) => {}
+        }
     }
 }
 
-// The numbers of the entries of the proposition at an offset of the code.
-pub fn put_entries<S: Sink<u16>>(
-    sink: &mut S,
-    list: TermList,
-    bytes: &[u8],
-    v: Vocabulary,
-    at: usize,
-)
-    requires { SomeProposition bytes.now v at }
-    ensures { S.puts sink.old (entry_numbers list (entries list (prop_in bytes.now v at))) sink.new }
+// The entries of the proposition at an offset of the code.
+pub fn put_entries<S: UseSink>(sink: &mut S, list: TermList, bytes: &[u8], v: Vocabulary, at: usize)
+    requires some_proposition { SomeProposition bytes.now v at }
+    requires known { (name : ℕ) → name < v.name_count → S.knows sink.old name }
+    ensures { S.puts sink.old (entries list (prop_in bytes.now v at)) sink.new }
 {
     let code = code_of(bytes, v);
     let names = v.name_count;
     let end = scan(code, at, names);
     let mut i = at;
     while let Some(entry) = next_entry(code, i, end, names, list) {
-        put_entry(sink, list, entry.name, entry.count);
+        sink.put_use(entry.name, entry.count);
         i = entry.next;
     }
 }

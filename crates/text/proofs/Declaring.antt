@@ -19,8 +19,10 @@ use Rattle.prop_lists.specs.Entries.{use_of, entries}
 use Rattle.proof_term_lists.specs.Labels.{term_uses, Listable, term_in}
 use Rattle.proof_term_lists.proofs.Labels.{atoms_are, datatypes_are}
 use Rattle.declarations.specs.declared.Declarations.{Declarations}
-use Rattle.declarations.specs.Memory.{use_over, uses_over, declarations, declared_uses, Fresh, Noted, Held, Notes}
-use Rattle.declarations.proofs.Noting.{fresh_noted, fresh_held, declared_held}
+use Rattle.declarations.specs.declared.Table.{Table}
+use Rattle.declarations.specs.Memory.{use_over, uses_over, declarations, declared_uses, Fresh, Noted, Room}
+use Rattle.declarations.specs.Noted.{DeclarationsPut, declarations_laws}
+use Rattle.declarations.proofs.Noting.{fresh_noted, declared_held}
 use Rattle.declarations.proofs.Lines.{datatypes_over}
 use Rattle.sheet.specs.declared.header.Sheet.{Sheet}
 use Rattle.sheet.specs.Header.{header_of}
@@ -44,24 +46,20 @@ uses_are (Datatypes v) f t p =
     ∙ rw (datatypes_renamed f v t, prop_datatypes_renamed f p) (ap (map as_use) (map-append f (datatype_list v t) (get_datatypes p))))
 
 -- in the order of version 1 declarations stand as they were first met
-met : {N : ℕ} {f : ℕ → Name} {l : List (AtomUse ℕ)} {m : Declarations N} → Noted f l m
+met : {N : ℕ} {f : ℕ → Name} {l : List (AtomUse ℕ)} {m : Table N} → Noted f l m
     → declared_uses f (declarations m) ≡ arranged compare_atom_use First (firsts eq_atom_use (uses_over f l))
 unfolding arranged
 met noted = noted.entries
 
 -- Of an accepted sheet, by its vocabulary:
 module _ {s : List ℕ} (a : Accepted s) {words : Vocabulary} (same : words ≡ sheet_vocabulary s) where
-  -- what it takes to note the term's labels before anything is noted
-  pub labels_notable : {terms : List ℕ} {n : ℕ} {m : Declarations 4608} → HeldTerm s terms n → Fresh m → Listable s words terms n × Held s words m
+  -- there is room for the declarations of its names
+  pub room : Room s words 4608
   unfolding name_limit
-  labels_notable term fresh =
+  room =
       let has = has_header a.sheet in
       let few = few_names has in
-      let count = ap (λ w. w.name_count) same in (
-        listable a same term,
-        rw same
-            (fresh_held fresh (λ name below. names_of (with_header a) (rw (count_is has) at below)) (omega arith) (omega arith) (omega arith)),
-      )
+      rw same (record { names = λ name below. names_of (with_header a) (rw (count_is has) at below); small = omega arith; flags = omega arith; numbered = omega arith })
 
   -- Where the goal stands:
   module _ {pairs : List ℕ} (cut : pairs ≡ proposition_pairs s) {h : Sheet} (header : h ≡ header_of s) {goal-offset : ℕ}
@@ -80,13 +78,15 @@ module _ {s : List ℕ} (a : Accepted s) {words : Vocabulary} (same : words ≡ 
         ap (rename_prop (name_of s)) (proposition_is a (goal s) a.sheet.in_range.goal ∙ rw (same, offset_is) (sym (prop_is (has_header a.sheet) _)))
 
     -- once the term's labels and then the goal are noted, the declarations are those of the sheet's text
-    pub declares : {terms : List ℕ} {n : ℕ} → HeldTerm s terms n → (list : TermList) → {N : ℕ} {m₀ m₁ m₂ : Declarations N} → Fresh m₀
-        → Notes s words (term_uses list (term_in s words terms n)) m₀ m₁
-        → Notes s words (entries list (prop_in s words goal-offset)) m₁ m₂ → Declares s First list (declarations m₂)
-    declares {terms} {n} term list fresh first second =
-        let noted = second.adds _ (first.adds [] (fresh_noted fresh _)) in
+    pub declares : {terms : List ℕ} {n : ℕ} → HeldTerm s terms n → (list : TermList) → {N : ℕ} {m₀ m₁ m₂ : Declarations N}
+        → Fresh m₀.table → m₀.bytes.now ≡ s → m₀.v ≡ words
+        → DeclarationsPut m₀ (term_uses list (term_in s words terms n)) m₁
+        → DeclarationsPut m₁ (entries list (prop_in s words goal-offset)) m₂ → Declares s First list (declarations m₂.table)
+    declares {terms} {n} term list {m₂ = m₂} fresh its-bytes its-words first second =
+        let all = declarations_laws.then first second in
+        let noted = rw (its-bytes, its-words) at (all.notes.adds [] (fresh_noted fresh _)) in
         record {
-          table = rw same at (declared_held second.held);
+          table = rw (all.same_bytes, all.same_vocabulary, its-bytes, its-words, same) at (declared_held m₂.held);
           entries = λ t is_term.
               let held : t ≡ term_of s terms n = cc (named_term_lem term) in
               let f = name_in s words in

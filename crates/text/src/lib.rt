@@ -22,7 +22,9 @@ use definitions::{Reason, Refusal, Style, TermList, Version};
 use number::pair_offset;
 use output::{Sink, Writer};
 use proof_term_length::term_length;
+use proof_term_lists::put_term_uses;
 use prop::fill_all_ends;
+use prop_lists::put_entries;
 use sheet::{AdmittedSheet, Sheet};
 use sheet_term::{TERM_NUMBERS, sheet_term};
 
@@ -59,12 +61,12 @@ fn declare<'a>(
     ensures few { length result.now < 32768 }
     ensures declares { Declares sheet.now First list result.now }
 {
-    let mut noted = Declarations::<DECLARATION_LIMIT>::new();
     let s = sheet.bytes();
     let v = sheet.vocabulary();
-    noted.note_term(terms, n, list, s, v);
+    let mut noted = Declarations::<DECLARATION_LIMIT>::new(s, v);
+    put_term_uses(&mut noted, list, s, v, terms, n);
     let goal = pair_offset(sheet.proposition_pairs(), sheet.header().goal);
-    noted.note_entries(s, v, goal, list);
+    put_entries(&mut noted, list, s, v, goal);
     let all = noted.declared();
     let declared = &mut memory[..all.len()];
     declared.copy_from_slice(all);

@@ -1,6 +1,5 @@
 -- A record that adds nothing puts nothing.
-use Rattle.prop_lists.proofs.Writes.{no_numbers}
 use Rattle.proof_term_lists.proofs.put_added.Goals as goal
 
 pub returns-in-None : goal.returns-in-None
-returns-in-None g c = rw (c.in-None.is, no_numbers) (g.met.S.Sink.laws.none _)
+returns-in-None g c = rw c.in-None.is (g.met.S.UseSink.laws.none _)

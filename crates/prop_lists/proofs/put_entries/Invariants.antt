@@ -1,5 +1,5 @@
--- The loop's invariant: what is left to put are the entries from `i` on.
-use Prim.Native.Nat.{◌-◌}
+-- The loop's invariant: what is left to put are the entries from `i` on, and the sink knows the names still.
+use Prim.Native.Nat.{ℕ, ◌-◌, ◌<◌}
 use Rattle.prop_lists.specs.Row.{Row}
 use Rattle.prop_lists.specs.Entries.{entries_from}
 use Rattle.prop_lists.proofs.Writes.{Left}
@@ -8,7 +8,8 @@ use Rattle.prop_lists.proofs.put_entries.Given as goal
 abbrev pub invariant-loop-entry : goal.invariant-loop-entry
 invariant-loop-entry g l =
     Row l.names l.code l.i l.end
-    × Left g.S.Sink.puts l.list (entries_from l.names l.list l.code l.at l.end) (entries_from l.names l.list l.code l.i l.end) l.initial.sink l.sink
+    × Left g.S.UseSink.puts (entries_from l.names l.list l.code l.at l.end) (entries_from l.names l.list l.code l.i l.end) l.initial.sink l.sink
+    × ((name : ℕ) → name < l.names → g.S.UseSink.knows l.sink name)
 
 abbrev pub decreases-loop-entry : goal.decreases-loop-entry
 decreases-loop-entry g l = l.end - l.i

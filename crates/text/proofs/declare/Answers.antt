@@ -1,34 +1,42 @@
--- Before anything is noted the term's labels can be noted, and then the goal.
+-- The term's labels are noted, and then the goal.
+use mathlib.Core.Path.{◌∙◌}
 use native.Mathlib.Omega.{arith}
 use borrow.Author.Rules.{rules}
 use Rattle.text.proofs.Accepted.{goal_pair}
-use Rattle.text.proofs.Declaring.{labels_notable, goal_there, declares}
+use Rattle.text.proofs.Labels.{listable}
+use Rattle.text.proofs.Declaring.{room, goal_there, declares}
 use Rattle.text.proofs.declare.Goals as goal
 
-pub note_term-requires : goal.note_term-requires
-note_term-requires c =
+pub new-noted-requires : goal.new-noted-requires
+new-noted-requires c = let v = c.vocabulary-v.ensures in (search rules, rw c.bytes-s.ensures.is (room v.accepted v.is))
+
+pub put_term_uses-requires : goal.put_term_uses-requires
+put_term_uses-requires c =
     let v = c.vocabulary-v.ensures in
-    (search rules, rw c.bytes-s.ensures.is (labels_notable v.accepted v.is c.requires c.new-noted.ensures))
+    record {
+      listable = rw c.bytes-s.ensures.is (listable v.accepted v.is c.requires);
+      known = λ name below. rw c.new-noted.ensures.2 below;
+    }
 
 pub pair_offset-goal-requires : goal.pair_offset-goal-requires
 pair_offset-goal-requires c =
     let header = c.header.ensures in rw c.proposition_pairs.ensures.is (goal_pair header.accepted header.is)
 
-pub note_entries-requires : goal.note_entries-requires
-note_entries-requires c =
+pub put_entries-requires : goal.put_entries-requires
+put_entries-requires c =
     let v = c.vocabulary-v.ensures in
-    let there = goal_there v.accepted v.is c.proposition_pairs.ensures.is c.header.ensures.is c.pair_offset-goal.ensures in
-    (search rules, (rw c.bytes-s.ensures.is there, c.note_term.ensures.held))
-
-pub declared-all-requires : goal.declared-all-requires
-declared-all-requires c = (search rules, c.note_entries.ensures.held.within)
+    record {
+      some_proposition = rw c.bytes-s.ensures.is (goal_there v.accepted v.is c.proposition_pairs.ensures.is c.header.ensures.is c.pair_offset-goal.ensures);
+      known = λ name below. rw (c.put_term_uses.ensures.same_vocabulary, c.new-noted.ensures.2) below;
+    }
 
 pub returns-clause-few : goal.returns-clause-few
-returns-clause-few c = omega (arith, c.declared-all.ensures.1, c.note_entries.ensures.held.within)
+returns-clause-few c = omega (arith, c.declared-all.ensures.1, c.put_entries.new.sink.held.within)
 
 pub returns-clause-declares : goal.returns-clause-declares
 returns-clause-declares c =
     let v = c.vocabulary-v.ensures in
     let all = declares v.accepted v.is c.proposition_pairs.ensures.is c.header.ensures.is c.pair_offset-goal.ensures c.requires
-    c.args.list c.new-noted.ensures (rw c.bytes-s.ensures.is at c.note_term.ensures) (rw c.bytes-s.ensures.is at c.note_entries.ensures) in
+    c.args.list c.new-noted.ensures.0 (c.new-noted.ensures.1 ∙ c.bytes-s.ensures.is) c.new-noted.ensures.2
+    (rw c.bytes-s.ensures.is at c.put_term_uses.ensures) (rw c.bytes-s.ensures.is at c.put_entries.ensures) in
     rw (c.copy_from_slice.ensures.after, c.declared-all.ensures.0) all

@@ -6,7 +6,7 @@ use Rattle.declarations.proofs.Search.{Remain}
 use Rattle.declarations.proofs.Declarations.is_declared.Given as goal
 
 abbrev pub invariant-loop-next : goal.invariant-loop-next
-invariant-loop-next g l = Remain (name_in l.bytes l.v) l.self.rows l.self.len (use_of l.name l.count) l.next
+invariant-loop-next g l = Remain (name_in l.self.bytes.now l.self.v) l.self.table.rows l.self.table.len (use_of l.name l.count) l.next
 
 abbrev pub decreases-loop-next : goal.decreases-loop-next
 decreases-loop-next g l = up_to l.next

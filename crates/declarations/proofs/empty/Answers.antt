@@ -1,6 +1,6 @@
 use mathlib.Core.Path.{refl}
 use Rattle.definitions.specs.NameIndex.{slot_count}
-use Rattle.declarations.proofs.Declarations.new.Goals as goal
+use Rattle.declarations.proofs.empty.Goals as goal
 
 pub returns : goal.returns
 unfolding slot_count

@@ -1,0 +1,13 @@
+-- The name, and then the count of an atom.
+use mathlib.Core.Path.{refl}
+use Rattle.definitions.specs.Answers.{atom_numbers}
+use Rattle.prop_lists.specs.Entries.{entry_numbers}
+use Rattle.prop_lists.proofs.NumbersUseSink.put_use.Goals as goal
+
+pub returns-in-Atoms : goal.returns-in-Atoms
+unfolding entry_numbers atom_numbers
+returns-in-Atoms g c = record {
+  put = rw c.in-Atoms.is (g.met.S.Sink.laws.then c.put.ensures c.put-in-Atoms.ensures);
+  same_list = refl;
+  same_sink = refl;
+}
