@@ -16,7 +16,7 @@ use Rattle.order_laws.proofs.Datatypes.{as_use}
 use Rattle.vocabulary.specs.declared.Vocabulary.{Vocabulary}
 use Rattle.vocabulary.specs.Vocabulary.{name_in, prop_in, SomeProposition}
 use Rattle.prop_lists.specs.Entries.{use_of, entries}
-use Rattle.proof_term_lists.specs.Labels.{term_uses, Listable, term_in}
+use Rattle.proof_term_lists.specs.Labels.{term_uses, term_in}
 use Rattle.proof_term_lists.proofs.Labels.{atoms_are, datatypes_are}
 use Rattle.declarations.specs.declared.Declarations.{Declarations}
 use Rattle.declarations.specs.declared.Table.{Table}
@@ -31,7 +31,7 @@ use Rattle.sheet.proofs.Admitted.{with_header, has_header}
 use Rattle.sheet.proofs.NamesAndCode.{count_is, prop_is, some_proposition, names_of}
 use Rattle.sheet_term.specs.Held.{HeldTerm}
 use Rattle.text.specs.Declaring.{sheet_vocabulary, listed_uses, term_of, Declares}
-use Rattle.text.proofs.Labels.{few_names, names_are, props_are, proposition_present, proposition_is, listable}
+use Rattle.text.proofs.Labels.{few_names, names_are, props_are, proposition_present, proposition_is}
 use Rattle.text.proofs.Heading.{named_term_lem}
 use Rattle.text.proofs.Renaming.{prop_atoms_renamed, prop_datatypes_renamed, atoms_renamed, datatypes_renamed}
 

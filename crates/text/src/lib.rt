@@ -31,7 +31,7 @@ use sheet_term::{TERM_NUMBERS, sheet_term};
 // As many declarations as there are names and counts of parameters.
 const DECLARATION_LIMIT: usize = Sheet::NAME_LIMIT * (Sheet::PARAMETER_LIMIT + 1);
 
-// The text of a sheet's term has fewer bytes.
+// The cap to which the bytes of a term's text are counted. No sheet's term has as many, so each is counted whole.
 const TERM_TEXT_LIMIT: usize = 1 << 42;
 
 // The list whose declarations come first in a version of the heading, and the list whose come second. In this crate the version is looked
@@ -71,6 +71,26 @@ fn declare<'a>(
     let declared = &mut memory[..all.len()];
     declared.copy_from_slice(all);
     declared
+}
+
+// The declarations of the first list of a version, and those of the second, in lent memory each.
+fn declare_both<'a>(
+    sheet: &AdmittedSheet,
+    terms: &[u16],
+    n: usize,
+    version: Version,
+    first_memory: &'a mut [Declaration; DECLARATION_LIMIT],
+    second_memory: &'a mut [Declaration; DECLARATION_LIMIT],
+) -> (&'a mut [Declaration], &'a mut [Declaration])
+    requires { HeldTerm sheet.now terms.now n }
+    ensures declares { Declares sheet.now First (first_list version) result.0.now }
+    ensures declares_2 { Declares sheet.now First (second_list version) result.1.now }
+    ensures few { (length result.0.now < 32768) × (length result.1.now < 32768) }
+{
+    let (upper, lower) = lists(version);
+    let first = declare(sheet, terms, n, upper, first_memory);
+    let second = declare(sheet, terms, n, lower, second_memory);
+    (first, second)
 }
 
 // Puts declarations, as they were first met, into the order of a version.
@@ -189,11 +209,16 @@ fn text_length(
     let mut ends = [0u16; Sheet::CODE_LIMIT];
     fill_sheet_ends(sheet, &mut ends);
     let term = measure_term(sheet, terms, n, style, &ends);
-    let (upper, lower) = lists(version);
     let mut first_memory = [Declaration::default(); DECLARATION_LIMIT];
     let mut second_memory = [Declaration::default(); DECLARATION_LIMIT];
-    let first = declare(sheet, terms, n, upper, &mut first_memory);
-    let second = declare(sheet, terms, n, lower, &mut second_memory);
+    let (first, second) = declare_both(
+        sheet,
+        terms,
+        n,
+        version,
+        &mut first_memory,
+        &mut second_memory,
+    );
     heading_length(sheet, version, first, second) + term
 }
 
@@ -226,11 +251,16 @@ pub fn text(
     if out.len() < term {
         return Err(Reason::Room.at(0));
     }
-    let (upper, lower) = lists(version);
     let mut first_memory = [Declaration::default(); DECLARATION_LIMIT];
     let mut second_memory = [Declaration::default(); DECLARATION_LIMIT];
-    let first = declare(sheet, terms, n, upper, &mut first_memory);
-    let second = declare(sheet, terms, n, lower, &mut second_memory);
+    let (first, second) = declare_both(
+        sheet,
+        terms,
+        n,
+        version,
+        &mut first_memory,
+        &mut second_memory,
+    );
     let end = heading_length(sheet, version, first, second) + term;
     if out.len() < end {
         return Err(Reason::Room.at(0));

@@ -1,6 +1,6 @@
 -- The term and the lines before it are measured; the text is refused for want of room, or put into the memory.
 use Rattle.std.proofs.Common.{rules}
-use Rattle.text.proofs.Heading.{noted_of, in_order, heading_is, term_too_long, text_too_long, text_fills}
+use Rattle.text.proofs.Heading.{in_order, heading_is, term_too_long, text_too_long, text_fills}
 use Rattle.text.proofs.text.Goals as goal
 
 pub returns-then-out-term : goal.returns-then-out-term
@@ -12,16 +12,9 @@ returns-then-out-end c =
     rw c.at-then-out-end.ensures
     (text_too_long c.requires _ _ c.measure_term-term.ensures c.heading_length.ensures c.if-out-end.true)
 
-pub heading_length-requires-clause-declares : goal.heading_length-requires-clause-declares
-heading_length-requires-clause-declares c = noted_of c.lists-upper.ensures.0 c.declare-first.ensures.declares
-
-pub heading_length-requires-clause-declares_2 : goal.heading_length-requires-clause-declares_2
-heading_length-requires-clause-declares_2 c = noted_of c.lists-upper.ensures.1 c.declare-second.ensures.declares
-
 pub returns : goal.returns
 returns c =
-    let first = noted_of c.lists-upper.ensures.0 c.declare-first.ensures.declares in
-    let second = noted_of c.lists-upper.ensures.1 c.declare-second.ensures.declares in
-    let heading = heading_is c.args.version (in_order first c.arrange.ensures) (in_order second c.arrange-2.ensures) in
+    let both = c.declare_both-first.ensures in
+    let heading = heading_is c.args.version (in_order both.declares c.arrange.ensures) (in_order both.declares_2 c.arrange-2.ensures) in
     text_fills c.requires _ _ c.measure_term-term.ensures c.heading_length.ensures {middle = c.put_heading.new.sink.out.now} {to = c.put_heading.new.sink.to}
     {next = c.put_term.new.sink.to} c.if-out-end.false (λ t is. rw (← heading t is) (search rules)) (search rules)
