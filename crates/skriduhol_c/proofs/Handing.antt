@@ -65,7 +65,8 @@ module _ (s : List ℕ) where
   search_told says (accepted x) = refl
   search_told says (refused x) = refl
 
--- so, of a sheet's bytes, it is handed over
+-- So, of a sheet's bytes, it is handed over. Each export cites one of these in an answer of its own: by `using` the search gives up at its
+-- limits on an answer that is a function of the sheet.
 module _ (s : List ℕ) {r : Result ℕ Located} {value column result : ℕ} (h : HandsAnswer r value column result) where
   pub filled_handed : (o : Outcome (List ℕ)) → r ≡ filled_of s o → Hands length s o value column result
   filled_handed o e = hands length s o (e ∙ filled_told s o) h

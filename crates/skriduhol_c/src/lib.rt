@@ -1,6 +1,6 @@
-// The public operations for callers in C and in Rust. A slice is a pointer and a length there. Each result is 0 for an accepted
-// answer or the refusal's number, and the value is what was accepted, as one number, or the refusal's place. The column is
-// that of the step that refusals 9 to 15 name, else 0.
+// The public operations as symbols of C. A slice is a pointer and a length there. Each operation but the board's output, which has no
+// refusal, returns 0 for an accepted answer or the refusal's number. Behind `value` stands what was accepted, as one number, or the
+// refusal's place; behind `column` the column of the step that refusals 9 to 15 name, else 0.
 #![tactic(auto)]
 
 ghost use Rattle.std.specs.Prelude.{◌≡◌, List, [], ℕ, length};
