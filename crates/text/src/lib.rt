@@ -27,6 +27,7 @@ use prop::fill_all_ends;
 use prop_lists::put_entries;
 use sheet::{AdmittedSheet, Sheet};
 use sheet_term::{TERM_NUMBERS, sheet_term};
+use std::marker::Model;
 
 // As many declarations as there are names and counts of parameters.
 const DECLARATION_LIMIT: usize = Sheet::NAME_LIMIT * (Sheet::PARAMETER_LIMIT + 1);
@@ -46,51 +47,97 @@ fn lists(version: Version) -> (TermList, TermList)
     }
 }
 
-// A sheet, the records of its term and the record that holds it are three parameters and no struct: a ghost field takes a fact that has
-// one proof at most, and of `HeldTerm`, which holds for each label the number of a proposition, this is not shown.
-
-// The declarations of a list of the term and then of what the goal adds to it, in lent memory.
-fn declare<'a>(
-    sheet: &AdmittedSheet,
-    terms: &[u16],
+// A sheet, and its term in records: record n holds it. A clause sees the sheet's bytes, the records and n.
+#[derive(Drop)]
+struct SheetTerm<'a, 's> {
+    sheet: &'a AdmittedSheet<'s>,
+    terms: &'a [u16],
     n: usize,
-    list: TermList,
-    memory: &'a mut [Declaration; DECLARATION_LIMIT],
-) -> &'a mut [Declaration]
-    requires { HeldTerm sheet.now terms.now n }
-    ensures few { length result.now < 32768 }
-    ensures declares { Declares sheet.now First list result.now }
-{
-    let s = sheet.bytes();
-    let v = sheet.vocabulary();
-    let mut noted = Declarations::<DECLARATION_LIMIT>::new(s, v);
-    put_term_uses(&mut noted, list, s, v, terms, n);
-    let goal = pair_offset(sheet.proposition_pairs(), sheet.header().goal);
-    put_entries(&mut noted, list, s, v, goal);
-    let all = noted.declared();
-    let declared = &mut memory[..all.len()];
-    declared.copy_from_slice(all);
-    declared
 }
 
-// The declarations of the first list of a version, and those of the second, in lent memory each.
-fn declare_both<'a>(
-    sheet: &AdmittedSheet,
-    terms: &[u16],
-    n: usize,
-    version: Version,
-    first_memory: &'a mut [Declaration; DECLARATION_LIMIT],
-    second_memory: &'a mut [Declaration; DECLARATION_LIMIT],
-) -> (&'a mut [Declaration], &'a mut [Declaration])
-    requires { HeldTerm sheet.now terms.now n }
-    ensures declares { Declares sheet.now First (first_list version) result.0.now }
-    ensures declares_2 { Declares sheet.now First (second_list version) result.1.now }
-    ensures few { (length result.0.now < 32768) × (length result.1.now < 32768) }
-{
-    let (upper, lower) = lists(version);
-    let first = declare(sheet, terms, n, upper, first_memory);
-    let second = declare(sheet, terms, n, lower, second_memory);
-    (first, second)
+impl<'a, 's> Model for SheetTerm<'a, 's> {
+    ghost use Rattle.std.specs.Prelude.{List, ℕ};
+    ghost use Rattle.sheet_term.specs.Held.{HeldTerm};
+
+    ghost Value = { List ℕ × List ℕ × ℕ };
+
+    ghost view = { λ a. (a.sheet.now, a.terms.now, a.n) };
+
+    ghost invariant = { λ a. HeldTerm a.sheet.now a.terms.now a.n };
+}
+
+impl<'a, 's> SheetTerm<'a, 's> {
+    // The declarations of a list of the term and then of what the goal adds to it, in lent memory.
+    fn declare<'m>(
+        &self,
+        list: TermList,
+        memory: &'m mut [Declaration; DECLARATION_LIMIT],
+    ) -> &'m mut [Declaration]
+        ensures few { length result.now < 32768 }
+        ensures declares { Declares self.now.0 First list result.now }
+    {
+        let s = self.sheet.bytes();
+        let v = self.sheet.vocabulary();
+        let mut noted = Declarations::<DECLARATION_LIMIT>::new(s, v);
+        put_term_uses(&mut noted, list, s, v, self.terms, self.n);
+        let goal = pair_offset(self.sheet.proposition_pairs(), self.sheet.header().goal);
+        put_entries(&mut noted, list, s, v, goal);
+        let all = noted.declared();
+        let declared = &mut memory[..all.len()];
+        declared.copy_from_slice(all);
+        declared
+    }
+
+    // The declarations of the first list of a version, and those of the second, in lent memory each.
+    fn declare_both<'m>(
+        &self,
+        version: Version,
+        first_memory: &'m mut [Declaration; DECLARATION_LIMIT],
+        second_memory: &'m mut [Declaration; DECLARATION_LIMIT],
+    ) -> (&'m mut [Declaration], &'m mut [Declaration])
+        ensures declares { Declares self.now.0 First (first_list version) result.0.now }
+        ensures declares_2 { Declares self.now.0 First (second_list version) result.1.now }
+        ensures few { (length result.0.now < 32768) × (length result.1.now < 32768) }
+    {
+        let (upper, lower) = lists(version);
+        let first = self.declare(upper, first_memory);
+        let second = self.declare(lower, second_memory);
+        (first, second)
+    }
+
+    // The term, from its records.
+    fn put_term<S: Sink<u8>>(&self, sink: &mut S, style: Style, ends: &[u16; Sheet::CODE_LIMIT])
+        requires { EndsKnown self.now.0 ends.now }
+        ensures { S.puts sink.old (display_term style (term_of self.now.0 self.now.1 self.now.2)) sink.new }
+    {
+        let s = self.sheet.bytes();
+        let v = self.sheet.vocabulary();
+        proof_term_display::put_term(sink, self.terms, self.n, s, v, ends, style);
+    }
+
+    // How long the term's text is.
+    fn measure_term(&self, style: Style, ends: &[u16; Sheet::CODE_LIMIT]) -> usize
+        requires { EndsKnown self.now.0 ends.now }
+        ensures { TermLength (display_term style (term_of self.now.0 self.now.1 self.now.2)) result }
+    {
+        let s = self.sheet.bytes();
+        let v = self.sheet.vocabulary();
+        term_length(self.terms, self.n, s, v, ends, style, TERM_TEXT_LIMIT)
+    }
+
+    // How long the text of the term in a version is.
+    fn text_length(&self, version: Version, style: Style) -> usize
+        ensures { (a : List ℕ) → sheet_text self.now.0 version style ≡ accepted a → result ≡ length a }
+    {
+        let sheet = self.sheet;
+        let mut ends = [0u16; Sheet::CODE_LIMIT];
+        fill_sheet_ends(sheet, &mut ends);
+        let term = self.measure_term(style, &ends);
+        let mut first_memory = [Declaration::default(); DECLARATION_LIMIT];
+        let mut second_memory = [Declaration::default(); DECLARATION_LIMIT];
+        let (first, second) = self.declare_both(version, &mut first_memory, &mut second_memory);
+        heading_length(sheet, version, first, second) + term
+    }
 }
 
 // Puts declarations, as they were first met, into the order of a version.
@@ -160,75 +207,18 @@ fn heading_length(
     lines_length(first, upper, s, v) + lines_length(second, lower, s, v) + 3
 }
 
-// The term, from its records.
-fn put_term<S: Sink<u8>>(
-    sink: &mut S,
-    sheet: &AdmittedSheet,
-    terms: &[u16],
-    n: usize,
-    style: Style,
-    ends: &[u16; Sheet::CODE_LIMIT],
-)
-    requires held_term { HeldTerm sheet.now terms.now n }
-    requires ends_known { EndsKnown sheet.now ends.now }
-    ensures { S.puts sink.old (display_term style (term_of sheet.now terms.now n)) sink.new }
-{
-    let s = sheet.bytes();
-    let v = sheet.vocabulary();
-    proof_term_display::put_term(sink, terms, n, s, v, ends, style);
-}
-
-// How long the term's text is.
-fn measure_term(
-    sheet: &AdmittedSheet,
-    terms: &[u16],
-    n: usize,
-    style: Style,
-    ends: &[u16; Sheet::CODE_LIMIT],
-) -> usize
-    requires held_term { HeldTerm sheet.now terms.now n }
-    requires ends_known { EndsKnown sheet.now ends.now }
-    ensures { TermLength (display_term style (term_of sheet.now terms.now n)) result }
-{
-    let s = sheet.bytes();
-    let v = sheet.vocabulary();
-    term_length(terms, n, s, v, ends, style, TERM_TEXT_LIMIT)
-}
-
-// How long the text of a sheet's term in a version is.
-fn text_length(
-    sheet: &AdmittedSheet,
-    terms: &[u16],
-    n: usize,
-    version: Version,
-    style: Style,
-) -> usize
-    requires { HeldTerm sheet.now terms.now n }
-    ensures { (a : List ℕ) → sheet_text sheet.now version style ≡ accepted a → result ≡ length a }
-{
-    let mut ends = [0u16; Sheet::CODE_LIMIT];
-    fill_sheet_ends(sheet, &mut ends);
-    let term = measure_term(sheet, terms, n, style, &ends);
-    let mut first_memory = [Declaration::default(); DECLARATION_LIMIT];
-    let mut second_memory = [Declaration::default(); DECLARATION_LIMIT];
-    let (first, second) = declare_both(
-        sheet,
-        terms,
-        n,
-        version,
-        &mut first_memory,
-        &mut second_memory,
-    );
-    heading_length(sheet, version, first, second) + term
-}
-
 // How long the text of a sheet is in a version and a style, or the refusal of the sheet's term, for every sequence of bytes.
 pub fn sheet_text_length(s: &[u8], version: Version, style: Style) -> Result<usize, Refusal>
     ensures { result ≡ written_of (sheet_text s.now version style) }
 {
     let mut terms = [0u16; TERM_NUMBERS];
     let (sheet, n) = sheet_term(s, &mut terms)?;
-    Ok(text_length(&sheet, &terms, n, version, style))
+    let held = SheetTerm {
+        sheet: &sheet,
+        terms: &terms,
+        n,
+    };
+    Ok(held.text_length(version, style))
 }
 
 // The text of a sheet's term in a version, in lent memory: measured, and then written where it fits. A term that is too long for the
@@ -245,22 +235,16 @@ pub fn text(
     ensures { Fills (is_in_room (length out.old) (sheet_text sheet.now version style))
         out.old out.new result }
 {
+    let held = SheetTerm { sheet, terms, n };
     let mut ends = [0u16; Sheet::CODE_LIMIT];
     fill_sheet_ends(sheet, &mut ends);
-    let term = measure_term(sheet, terms, n, style, &ends);
+    let term = held.measure_term(style, &ends);
     if out.len() < term {
         return Err(Reason::Room.at(0));
     }
     let mut first_memory = [Declaration::default(); DECLARATION_LIMIT];
     let mut second_memory = [Declaration::default(); DECLARATION_LIMIT];
-    let (first, second) = declare_both(
-        sheet,
-        terms,
-        n,
-        version,
-        &mut first_memory,
-        &mut second_memory,
-    );
+    let (first, second) = held.declare_both(version, &mut first_memory, &mut second_memory);
     let end = heading_length(sheet, version, first, second) + term;
     if out.len() < end {
         return Err(Reason::Room.at(0));
@@ -269,6 +253,6 @@ pub fn text(
     arrange(sheet, version, second);
     let mut writer = Writer { out, to: 0 };
     put_heading(&mut writer, sheet, version, first, second);
-    put_term(&mut writer, sheet, terms, n, style, &ends);
+    held.put_term(&mut writer, style, &ends);
     Ok(end)
 }

@@ -5,7 +5,7 @@ use borrow.Author.Rules.{rules}
 use Rattle.text.proofs.Accepted.{goal_pair}
 use Rattle.text.proofs.Labels.{listable}
 use Rattle.text.proofs.Declaring.{room, goal_there, declares}
-use Rattle.text.proofs.declare.Goals as goal
+use Rattle.text.proofs.SheetTerm.declare.Goals as goal
 
 pub new-noted-requires : goal.new-noted-requires
 new-noted-requires c = let v = c.vocabulary-v.ensures in (search rules, rw c.bytes-s.ensures.is (room v.accepted v.is))
@@ -14,7 +14,7 @@ pub put_term_uses-requires : goal.put_term_uses-requires
 put_term_uses-requires c =
     let v = c.vocabulary-v.ensures in
     record {
-      listable = rw c.bytes-s.ensures.is (listable v.accepted v.is c.requires);
+      listable = rw c.bytes-s.ensures.is (listable v.accepted v.is c.self.invariant);
       known = λ name below. rw c.new-noted.ensures.2 below;
     }
 
@@ -36,7 +36,7 @@ returns-clause-few c = omega (arith, c.declared-all.ensures.1, c.put_entries.new
 pub returns-clause-declares : goal.returns-clause-declares
 returns-clause-declares c =
     let v = c.vocabulary-v.ensures in
-    let all = declares v.accepted v.is c.proposition_pairs.ensures.is c.header.ensures.is c.pair_offset-goal.ensures c.requires
+    let all = declares v.accepted v.is c.proposition_pairs.ensures.is c.header.ensures.is c.pair_offset-goal.ensures c.self.invariant
     c.args.list c.new-noted.ensures.0 (c.new-noted.ensures.1 ∙ c.bytes-s.ensures.is) c.new-noted.ensures.2
     (rw c.bytes-s.ensures.is at c.put_term_uses.ensures) (rw c.bytes-s.ensures.is at c.put_entries.ensures) in
-    rw (c.copy_from_slice.ensures.after, c.declared-all.ensures.0) all
+    rw (← c.self.view_is, c.copy_from_slice.ensures.after, c.declared-all.ensures.0) all
