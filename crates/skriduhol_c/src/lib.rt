@@ -290,14 +290,7 @@ pub extern "C" fn skriduhol_label_count(sheet: &[u8], value: &mut usize, column:
     hand(skriduhol::label_count(sheet), value, column)
 }
 
-// 1 for yes and 0 for no.
-fn yes_or_no(same: bool) -> usize
-    ensures { result ≡ yes_or_no same }
-{
-    usize::from(same)
-}
-
-// The comparison of two steps' conclusions.
+// The comparison of two steps' conclusions: 1 for yes and 0 for no.
 #[unsafe(no_mangle)]
 pub extern "C" fn skriduhol_compare(
     sheet: &[u8],
@@ -309,7 +302,7 @@ pub extern "C" fn skriduhol_compare(
     ensures { Hands yes_or_no sheet.now (comparison sheet.now i j) value.new column.new result }
 {
     let compared = skriduhol::compare(sheet, i, j);
-    hand(compared.map(yes_or_no), value, column)
+    hand(compared.map(usize::from), value, column)
 }
 
 // What is given for a restatement: a kind, three numbers and a column, in the order of a step record. Five loose numbers are given by
