@@ -30,8 +30,7 @@ pub struct Declaration {
     pub count: u16,
 }
 
-// Where no declarations are at hand a memory and its vocabulary are two parameters: as fields of one struct, `name_in bytes.now v` would
-// read `name_in names.entry.bytes.now names.entry.v` in each clause.
+// Where no declarations are at hand a memory and its vocabulary stand loose, for the reason that vocabulary gives.
 
 // Whether a declaration has this count and the bytes of this name. The counts are compared first, so that few names are.
 fn has(other: Declaration, name: usize, count: usize, bytes: &[u8], v: Vocabulary) -> bool

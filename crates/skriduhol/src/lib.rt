@@ -41,8 +41,8 @@ use sheet::{AdmittedSheet, check_header, vocabulary};
 use sheet_term::{TERM_NUMBERS, sheet_term};
 use text::{sheet_text_length, text};
 
-// The version of a number, or 21, which names no step of any sheet. A number is turned into a version in this crate alone, and the refusal
-// is handed on as it is: a `TryFrom` beside the type would be this match, and each caller's `?` would add the column.
+// The version of a number, or 21, which names no step of any sheet. A `TryFrom` would be this match with this contract, and stand in
+// `definitions`, where the type is; a number is turned into a version in this crate alone.
 fn asked_version(number: usize) -> Result<Version, Located>
     ensures { (s : List ℕ) → result ≡ asked_of s (version_of number) }
 {
