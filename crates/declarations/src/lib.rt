@@ -62,27 +62,23 @@ pub struct Declarations<'a, const N: usize> {
     pub ghost held: { Held bytes.now v table },
 }
 
-// A table without declarations.
-fn empty<const N: usize>() -> Table<N>
-    ensures { Fresh result }
-{
-    Table {
-        rows: [Declaration::default(); N],
-        len: 0,
-        seen: [false; N],
-        newest: [None; SLOT_COUNT],
-        older: [None; N],
-    }
-}
-
 impl<'a, const N: usize> Declarations<'a, N> {
     // No declarations.
     pub fn new(bytes: &'a [u8], v: Vocabulary) -> Self
         requires { Room bytes.now v N }
         ensures { Fresh result.table × (result.bytes.now ≡ bytes.now) × (result.v ≡ v) }
     {
-        let table = empty();
-        Declarations { bytes, v, table }
+        Declarations {
+            bytes,
+            v,
+            table: Table {
+                rows: [Declaration::default(); N],
+                len: 0,
+                seen: [false; N],
+                newest: [None; SLOT_COUNT],
+                older: [None; N],
+            },
+        }
     }
 
     // The declarations, the oldest first.
