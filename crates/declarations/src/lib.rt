@@ -53,7 +53,7 @@ pub struct Table<const N: usize> {
     older: [Option<u16>; N],
 }
 
-// Declarations of the names of a memory: as a sink of uses they note each one that they are without.
+// The declarations over the names of a memory. As a sink of uses they note each use that is not declared yet.
 #[derive(Drop)]
 pub struct Declarations<'a, const N: usize> {
     bytes: &'a [u8],
