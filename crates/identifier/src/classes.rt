@@ -1,7 +1,7 @@
 // The class of a byte in a name, by a table.
 ghost use Rattle.std.specs.Prelude.{◌≡◌};
 ghost use Rattle.definitions.specs.Name.{byte_class, may_begin, may_follow};
-ghost use Rattle.identifier.specs.Class.{class_of, ClassTable};
+ghost use Rattle.identifier.specs.Class.{class_of};
 
 use Class::{Digit, Letter, Other, Underscore};
 
@@ -16,13 +16,12 @@ pub enum Class {
 }
 
 impl Class {
-    // The class of a byte, by a table that is lent: an index into the constant would lay all of it down at each look.
-    #[tactic(auto, unfolding(crate::specs::Class::ClassTable))]
-    pub fn of_byte(classes: &[Class; 256], b: u8) -> Class
-        requires { ClassTable classes.now }
+    // The class of a byte, by the table.
+    #[tactic(auto, using(crate::proofs::Table::classes_hold), unfolding(crate::specs::Class::ClassTable))]
+    pub fn of_byte(b: u8) -> Class
         ensures { class_of result ≡ byte_class b }
     {
-        classes[usize::from(b)]
+        CLASSES[usize::from(b)]
     }
 
     // Whether a name may begin with a byte of this class.
@@ -43,7 +42,7 @@ impl Class {
 }
 
 // The class of each byte, as the table of 256 entries that document 01 asks for.
-pub const CLASSES: [Class; 256] = [
+static CLASSES: [Class; 256] = [
     // 0 to 47
     Other, Other, Other, Other, Other, Other, Other, Other, Other, Other, Other, Other, Other,
     Other, Other, Other, Other, Other, Other, Other, Other, Other, Other, Other, Other, Other,

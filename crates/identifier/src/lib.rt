@@ -10,7 +10,7 @@ ghost use Rattle.definitions.specs.Sheet.{marked};
 ghost use Rattle.number.specs.Pairs.{NameWithin};
 ghost use Rattle.identifier.specs.Pairs.{PairsWithin, same_bytes};
 
-pub use classes::{CLASSES, Class};
+pub use classes::Class;
 use number::Marked;
 use search::lowest;
 use std::cmp::Ordering;
@@ -19,19 +19,17 @@ use std::cmp::Ordering;
 pub const NAME_LENGTH_LIMIT: usize = 32;
 
 // Whether each byte is one that its position allows.
-#[tactic(auto, using(crate::proofs::Table::classes_hold), unfolding(definitions::specs::Name::is_name))]
+#[tactic(auto, unfolding(definitions::specs::Name::is_name))]
 pub fn is_name(name: &[u8]) -> bool
     ensures { result ≡ is_name name.now }
 {
     let Some((first, rest)) = name.split_first() else {
         return false;
     };
-    let classes = CLASSES;
-    if !Class::of_byte(&classes, *first).may_begin() {
+    if !Class::of_byte(*first).may_begin() {
         return false;
     }
-    rest.iter()
-        .all(|&b| Class::of_byte(&classes, b).may_follow())
+    rest.iter().all(|&b| Class::of_byte(b).may_follow())
 }
 
 // How two names stand to each other: by bytes, a name before its own extensions.

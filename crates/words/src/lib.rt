@@ -8,14 +8,13 @@ ghost use Rattle.definitions.specs.CallerNames.{names_in};
 ghost use Rattle.definitions.specs.Sheet.{name_limit, pair_size, marked};
 ghost use Rattle.definitions.specs.NameIndex.{slot_count};
 ghost use Rattle.definitions.specs.TermReader.{name, expect, start_of, argument_follows};
-ghost use Rattle.identifier.specs.Class.{ClassTable};
 ghost use Rattle.name_index.specs.Probed.{seen};
 ghost use Rattle.words.specs.Places.{between, WordEnds, NameEnds, Expected};
 ghost use Rattle.words.specs.Starts.{as_start};
 ghost use Rattle.words.specs.Table.{Table, NoNames, NamePlace, TooMany, NumberOf, PairFits, searched, with_number, with_pair};
 
 use caller_names::{is_listed, well_formed};
-use identifier::{CLASSES, Class, same_name};
+use identifier::{Class, same_name};
 use name_index::{FREE, SLOT_COUNT, Slot, probe_by};
 use number::{Marked, PAIR_SIZE};
 use output::Writer;
@@ -27,12 +26,9 @@ pub fn word_end(text: &[u8], at: usize) -> usize
     requires { at ≤ length text.now }
     ensures { WordEnds text.now at result }
 {
-    let classes = CLASSES;
-    let Some(length) = text[at..].iter().position(
-        |b|
-            requires { ClassTable classes }
-        { !Class::of_byte(&classes, *b).may_follow() },
-    )
+    let Some(length) = text[at..]
+        .iter()
+        .position(|b| !Class::of_byte(*b).may_follow())
     else {
         return text.len();
     };

@@ -1,19 +1,10 @@
 -- The first byte that may not follow in a name ends the word.
-use mathlib.Core.Path.{refl}
 use borrow.Author.Rules.{rules}
 use borrow.Author.Tests.{tests}
 use Rattle.std.proofs.lemmas.Iterator.{YieldsList-from_slice}
-use Rattle.std.proofs.lemmas.Iterator.Adapters.{serves_from_places}
 use Rattle.std.proofs.lemmas.Iterator.Search.{position_from_yields_List}
-use Rattle.definitions.specs.Name.{byte_class}
-use Rattle.identifier.proofs.Table.{class_table}
 use Rattle.words.proofs.Runs.{stops, word_stops, word_whole}
 use Rattle.words.proofs.word_end.Goals as goal
-
-pub position-requires-clause-callable : goal.position-requires-clause-callable
-unfolding byte_class
-position-requires-clause-callable c =
-    serves_from_places (YieldsList-from_slice _ c.iter.ensures.rest) (λ x q k. search (rules, tests)) (λ x k l is. class_table _ refl tt)
 
 pub returns-in_default : goal.returns-in_default
 returns-in_default c =
