@@ -1,6 +1,5 @@
 pub mod Everything
 pub mod Outcomes
-pub mod Either
 pub mod Lowest
 pub mod Upward
 pub mod Arms

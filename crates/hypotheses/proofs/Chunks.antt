@@ -15,7 +15,7 @@ use Rattle.definitions.specs.Sheet.{name_of}
 use Rattle.definitions.specs.CheckingRules.{Context, bind}
 use Rattle.definitions.specs.Sound.{is_quantifier_free}
 use Rattle.definitions.specs.CheckAnswers.{all_quantifier_free, named_prop, assumed}
-use Rattle.definitions.proofs.Either.{neither}
+use Rattle.std.proofs.lemmas.Bool.{or_parts}
 use Rattle.hypotheses.specs.Pairs.{out_of}
 
 -- ---- all chunks, for 31
@@ -98,8 +98,8 @@ pub pair_in : (n p : ℕ) (hs : List ℕ) → out_of n p hs ≡ false → (pair 
 unfolding out_of paired
 pair_in n p [] e pair k l is = absurd (omega arith)
 pair_in n p (x ∷ []) e pair k l is = absurd (omega arith)
-pair_in n p (x ∷ q ∷ hs) e pair zero l is = rw is (record { size = refl; proposition = leb-false p q (neither _ _ (neither _ _ e).1).0 })
-pair_in n p (x ∷ q ∷ hs) e pair (suc k) l is = pair_in n p hs (neither _ _ (neither _ _ e).1).1 pair k (omega arith) is
+pair_in n p (x ∷ q ∷ hs) e pair zero l is = rw is (record { size = refl; proposition = leb-false p q (or_parts _ _ (or_parts _ _ e).1).0 })
+pair_in n p (x ∷ q ∷ hs) e pair (suc k) l is = pair_in n p hs (or_parts _ _ (or_parts _ _ e).1).1 pair k (omega arith) is
 
 module _ (s : List ℕ) where
   -- the proposition of a pair is free

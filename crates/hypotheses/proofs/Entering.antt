@@ -11,7 +11,7 @@ use Rattle.definitions.specs.Prop.{rename_prop}
 use Rattle.definitions.specs.Sheet.{name_of, pair_offset}
 use Rattle.definitions.specs.CheckingRules.{Context, bind}
 use Rattle.definitions.specs.CheckAnswers.{named_prop, assumed}
-use Rattle.definitions.proofs.Either.{neither}
+use Rattle.std.proofs.lemmas.Bool.{or_parts}
 use Rattle.prefix_code.specs.PropAt.{prop_at}
 use Rattle.prop_numbers.specs.Standing.{name_space, Stood, Distinct}
 use Rattle.checker.specs.Scope.{Entries, Scoped}
@@ -57,8 +57,8 @@ module _ (s numbers pairs code : List ℕ) (count : ℕ) (f : ℕ → Name) (one
   scope_assumed [] scope g e a = a
   scope_assumed (x ∷ []) scope g e a = absurd (true≢false e)
   scope_assumed (x ∷ p ∷ hs) scope g e a =
-      let (name, after) = neither _ _ e in
-      let (number, rest) = neither _ _ after in
+      let (name, after) = or_parts _ _ e in
+      let (number, rest) = or_parts _ _ after in
       let x-low = leb-false (length numbers) x name in
       let p-low = leb-false count p number in
       let y = get_or numbers x 0 in

@@ -8,7 +8,7 @@ use lib.ListN.{length, get_or}
 use borrow.Author.Tests.{leb-false}
 use Rattle.definitions.specs.Sheet.{names, propositions}
 use Rattle.definitions.specs.CheckAnswers.{hypothesis_out}
-use Rattle.definitions.proofs.Either.{neither}
+use Rattle.std.proofs.lemmas.Bool.{or_parts}
 use Rattle.hypotheses.specs.Pairs.{out_of}
 
 -- by a sheet's counts this is the definitions' own test
@@ -32,8 +32,8 @@ module _ (n p : ℕ) where
   next_of [] left s e = absurd (omega arith)
   next_of (x ∷ []) left s e = absurd (omega arith)
   next_of (x ∷ y ∷ []) left s e =
-      let (name, after) = neither _ _ e in
-      let (proposition, rest) = neither _ _ after in
+      let (name, after) = or_parts _ _ e in
+      let (proposition, rest) = or_parts _ _ after in
       record { name = leb-false n x name; proposition = leb-false p y proposition; none = rest; ahead = refl }
   next_of (x ∷ y ∷ z ∷ pair) left s e = absurd (omega arith)
 

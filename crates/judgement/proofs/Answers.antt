@@ -13,7 +13,7 @@ use Rattle.definitions.specs.Answers.{sheet_term, named_term}
 use Rattle.definitions.specs.Checker.{Judged, derived, stopped}
 use Rattle.definitions.specs.Sound.{is_quantifier_free}
 use Rattle.definitions.specs.CheckAnswers.{is_checkable, all_quantifier_free, named_prop, hypothesis_out, assumed, judgement, sheet_judgement}
-use Rattle.definitions.proofs.Either.{neither}
+use Rattle.std.proofs.lemmas.Bool.{or_parts}
 use Rattle.checker_laws.proofs.Checkable.{checkable_same}
 use Rattle.checker_laws.proofs.SoundJudgement.{sound_judgement, sound_yes}
 use Rattle.prefix_code.specs.PropAt.{prop_at}
@@ -46,7 +46,7 @@ module _ (s : List ℕ) {h : Sheet} (header : h ≡ header_of s) (k : ℕ) (hs :
 
 module _ (s : List ℕ) (k : ℕ) (hs : List ℕ) {out : Bool} (is : out ≡ (leb (propositions s) k || hypothesis_out s hs)) where
   pub known : out ≡ false → Known s hs k
-  known e = let (low, none) = neither _ _ (sym is ∙ e) in record { proposition = leb-false _ _ low; hypotheses = none }
+  known e = let (low, none) = or_parts _ _ (sym is ∙ e) in record { proposition = leb-false _ _ low; hypotheses = none }
 
   pub refused-31 : out ≡ true → {terms : List ℕ} {n : ℕ} → HeldTerm s terms n
       → Err (record { number = 31; place = 0 }) ≡ judgement_of (judgement s (held_term s terms n) hs k)

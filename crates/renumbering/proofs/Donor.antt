@@ -14,7 +14,7 @@ use Rattle.definitions.specs.Tree.{rule_in, identifier_count}
 use Rattle.definitions.specs.Admission.{not_zero, bad_prop_is_true, bad_type_judgement, bad_conclusion, bad_step}
 use Rattle.definitions.specs.Encode.{concat}
 use Rattle.definitions.specs.Graft.{up_to, renumbered, donor_name, donor_record, donor_records}
-use Rattle.definitions.proofs.Either.{neither}
+use Rattle.std.proofs.lemmas.Bool.{or_parts}
 use Rattle.graft_laws.proofs.MergedSheet.{rename_same}
 use Rattle.graft_laws.proofs.MergedFields.{tests}
 use Rattle.graft_laws.proofs.MergedSteps.{good_step}
@@ -30,8 +30,8 @@ module _ (n p : ℕ) (records : List ℕ) (k : ℕ) (good : bad_conclusion n p r
   pub zeros : eqb (step_number records k 10) 0 ≡ true → (step_number records k 14 ≡ 0) × (step_number records k 16 ≡ 0)
   unfolding bad_conclusion bad_prop_is_true not_zero
   zeros is =
-      let a = (neither (leb p (step_number records k 12)) _ (rw is at good)).1 in
-      let b = neither (not (eqb (step_number records k 14) 0)) (not (eqb (step_number records k 16) 0)) a in
+      let a = (or_parts (leb p (step_number records k 12)) _ (rw is at good)).1 in
+      let b = or_parts (not (eqb (step_number records k 14) 0)) (not (eqb (step_number records k 16) 0)) a in
       (eqb-true _ 0 (not-false _ b.0), eqb-true _ 0 (not-false _ b.1))
 
   pub one : eqb (step_number records k 10) 0 ≡ false → step_number records k 10 ≡ 1

@@ -9,15 +9,15 @@ use borrow.Author.Tests.{ltb-false, le-ltb, ne_eqb}
 use Rattle.definitions.specs.Sheet.{name_length_limit, pair_offset, pair_length, pair_end, last_end}
 use Rattle.definitions.specs.Admission.{misplaced, bad_name_pair, bad_proposition_pair}
 use Rattle.sheet.specs.Pairs.{bad_pair, GoodPair}
-use Rattle.definitions.proofs.Either.{neither, holds_unless}
+use Rattle.std.proofs.lemmas.Bool.{or_parts, true_from_ne_false}
 
 module _ (pairs : List ℕ) (bytes longest i : ℕ) where
   pub good_pair : bad_pair pairs bytes longest i ≡ false → GoodPair pairs bytes longest i
   unfolding bad_pair misplaced
   good_pair e =
-      let (place, lengths) = neither _ _ e in
-      let (sorted, within) = neither _ _ place in
-      let (some_byte, not_too_long) = neither _ _ lengths in
+      let (place, lengths) = or_parts _ _ e in
+      let (sorted, within) = or_parts _ _ place in
+      let (some_byte, not_too_long) = or_parts _ _ lengths in
       record {
         sorted = ltb-false _ _ sorted;
         within = ltb-false _ _ within;
@@ -32,7 +32,7 @@ module _ (pairs : List ℕ) (bytes longest i : ℕ) where
       (le-ltb _ _ g.sorted, le-ltb _ _ g.within, le-ltb _ _ g.some_byte, le-ltb _ _ g.not_too_long)
 
   pub bad_pair_lem : (GoodPair pairs bytes longest i → ⊥) → bad_pair pairs bytes longest i ≡ true
-  bad_pair_lem refuted = holds_unless _ (λ e. refuted (good_pair e))
+  bad_pair_lem refuted = true_from_ne_false _ (λ e. refuted (good_pair e))
 
 -- refusal 4 asks for a length of 1 to 32
 pub name_pairs_alike : (pairs : List ℕ) (bytes : ℕ) → bad_pair pairs bytes name_length_limit ≡ bad_name_pair pairs bytes
@@ -44,7 +44,7 @@ no_longer : (pairs : List ℕ) (bytes i : ℕ) → misplaced pairs bytes i ≡ f
 unfolding misplaced pair_end
 no_longer pairs bytes i e =
     let ends = ltb bytes (pair_offset pairs i + pair_length pairs i) in
-    let within : ends ≡ false = (neither (ltb (pair_offset pairs i) (last_end pairs i)) _ e).1 in
+    let within : ends ≡ false = (or_parts (ltb (pair_offset pairs i) (last_end pairs i)) _ e).1 in
     omega (arith, ltb-false)
 
 below_one : (n : ℕ) → ltb n 1 ≡ eqb n 0

@@ -6,18 +6,18 @@ use mathlib.Core.List.{List}
 use borrow.Author.Tests.{ltb-false, leb-false}
 use Rattle.definitions.specs.Sheet.{header_out_of_range}
 use Rattle.sheet.specs.Header.{header_of, InRange}
-use Rattle.definitions.proofs.Either.{neither}
+use Rattle.std.proofs.lemmas.Bool.{or_parts}
 
 pub in_range : (s : List ℕ) → header_out_of_range s ≡ false → InRange (header_of s)
 unfolding header_out_of_range header_of
 in_range s e =
-    let (rest, goal) = neither _ _ e in
-    let (rest, steps) = neither _ _ rest in
-    let (rest, propositions) = neither _ _ rest in
-    let (rest, code) = neither _ _ rest in
-    let (text, names) = neither _ _ rest in
-    let (no-proposition, propositions) = neither _ _ propositions in
-    let (no_step, steps) = neither _ _ steps in
+    let (rest, goal) = or_parts _ _ e in
+    let (rest, steps) = or_parts _ _ rest in
+    let (rest, propositions) = or_parts _ _ rest in
+    let (rest, code) = or_parts _ _ rest in
+    let (text, names) = or_parts _ _ rest in
+    let (no-proposition, propositions) = or_parts _ _ propositions in
+    let (no_step, steps) = or_parts _ _ steps in
     record {
       text = ltb-false _ _ text;
       names = ltb-false _ _ names;

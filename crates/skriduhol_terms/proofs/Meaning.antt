@@ -16,7 +16,7 @@ use Rattle.definitions.specs.Term.{ProofTerm}
 use Rattle.definitions.specs.TermText.{nodes}
 use Rattle.definitions.specs.TermReader.{read_answer}
 use Rattle.definitions.specs.TermMemory.{different_names, place, text_labels, labels_size, records_of, record_numbers, TermRoom, too_short, term_answer}
-use Rattle.definitions.proofs.Either.{neither}
+use Rattle.std.proofs.lemmas.Bool.{or_parts}
 use Rattle.definitions.proofs.Outcomes.{each_accepted, test_failed}
 use Rattle.proof_term.specs.Records.{record_size}
 use Rattle.term_meaning.specs.Memory.{Stored, MarksAll}
@@ -46,8 +46,8 @@ record Room (names code : List ℕ) (t : ProofTerm Name) : Type 0 where
 enough : (records names code : List ℕ) (t : ProofTerm Name) → too_short (room_of records names code) t ≡ false → Room names code t
 unfolding too_short room_of
 enough records names code t e =
-    let (_, rest) = neither (ltb (length records) (record_numbers * nodes t)) _ e in
-    let (second, third) = neither (ltb (length names) (pair_size * length (different_names t))) _ rest in
+    let (_, rest) = or_parts (ltb (length records) (record_numbers * nodes t)) _ e in
+    let (second, third) = or_parts (ltb (length names) (pair_size * length (different_names t))) _ rest in
     record { for_names = ltb-false _ _ second; for_code = ltb-false _ _ third }
 
 -- Of a term that was handed over into memory with room for it:

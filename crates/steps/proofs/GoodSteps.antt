@@ -9,7 +9,7 @@ use lib.Dec.{eqb, leb}
 use borrow.Author.Tests.{leb-false, le-leb}
 use Rattle.definitions.specs.Sheet.{rule_byte, step_number}
 use Rattle.definitions.specs.Tree.{rules, rule_in, identifier_count}
-use Rattle.definitions.proofs.Either.{neither}
+use Rattle.std.proofs.lemmas.Bool.{or_parts}
 use Rattle.definitions.specs.Admission.{no_name, bad_identifier, bad_prop_is_true, bad_type_judgement, bad_conclusion, identifiers, bad_step}
 use Rattle.steps.specs.declared.Judgement.{Judgement}
 use Rattle.steps.specs.declared.Conclusion.TheVariants.{PropIsTrue, TypeJudgement}
@@ -26,7 +26,7 @@ known_numbers : (names propositions : ℕ) (zero one rest : Bool) (p : ℕ) (x :
 known_numbers names propositions true one rest p x e =
     record {
       proposition = λ q same.
-          let below : p < propositions = leb-false _ _ (neither _ _ e).0 in
+          let below : p < propositions = leb-false _ _ (or_parts _ _ e).0 in
           let number : p ≡ q = cc in
           omega arith;
       judgement = λ y same. absurd (let z : ◌≡◌ {A = ℕ} 0 1 = cc in omega arith);
@@ -36,7 +36,7 @@ known_numbers names propositions false true rest p x e =
       proposition = λ q same. absurd (let z : ◌≡◌ {A = ℕ} 0 1 = cc in omega arith);
       judgement = λ y same.
           let numbers : x ≡ y = cc in
-          let (object, datatype) = neither _ _ e in
+          let (object, datatype) = or_parts _ _ e in
           rw (← numbers) (record { object = leb-false _ _ object; datatype = leb-false _ _ datatype });
     }
 known_numbers names propositions false false rest p x e = absurd (true≢false e)
@@ -53,10 +53,10 @@ module _ (names propositions : ℕ) (records : List ℕ) (k : ℕ) (good : bad_s
   passes : Passes names propositions records k
   unfolding bad_step
   passes =
-      let (rule, after-rule) = neither (leb (length rules) (rule_byte records k)) _ good in
-      let (first, after_first) = neither (bad_identifier names propositions records k 2 _) _ after-rule in
-      let (second, after-second) = neither (bad_identifier names propositions records k 6 _) _ after_first in
-      let (conclusion, _) = neither (bad_conclusion names propositions records k) _ after-second in
+      let (rule, after-rule) = or_parts (leb (length rules) (rule_byte records k)) _ good in
+      let (first, after_first) = or_parts (bad_identifier names propositions records k 2 _) _ after-rule in
+      let (second, after-second) = or_parts (bad_identifier names propositions records k 6 _) _ after_first in
+      let (conclusion, _) = or_parts (bad_conclusion names propositions records k) _ after-second in
       record { rule = rule; first = first; second = second; conclusion = conclusion }
 
   pub known_rule : rule_byte records k < length rules
