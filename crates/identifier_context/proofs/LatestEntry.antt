@@ -8,11 +8,12 @@ use native.Mathlib.Omega.{arith}
 use Rattle.definitions.specs.IdentifierContext.{len, latest, without_latest}
 use Rattle.definitions.specs.IdentifierContext as definition
 use Rattle.search.specs.Highest.{highest}
+use Rattle.identifier_context.specs.declared.Entry.{Entry}
 use Rattle.identifier_context.specs.Memory.{entry_of, entry_at, context_of}
 use Rattle.identifier_context.specs.Promises.{latest_at, entry_found}
 use Rattle.identifier_context.proofs.Contexts.{context_length, context_same}
 
-module _ (wanted : definition.Entry → Bool) (entries : List ℕ) where
+module _ (wanted : definition.Entry → Bool) (entries : List Entry) where
   -- the search passes an entry that the test refuses
   search_passes : {i j : ℕ} → i ≡ suc j → wanted (entry_of (entry_at entries j)) ≡ false
       → latest_at wanted (context_of entries i) ≡ latest_at wanted (context_of entries j)
@@ -65,7 +66,7 @@ module _ (wanted : definition.Entry → Bool) (entries : List ℕ) where
   without_none (passes e s) = rw (e, without_none s)
 
   -- without the entry that is found, it is the context of a memory in which the later ones stand one place down
-  pub without_some : (after : List ℕ) (n : ℕ) {i : ℕ} → Search (suc n) (Some i)
+  pub without_some : (after : List Entry) (n : ℕ) {i : ℕ} → Search (suc n) (Some i)
       → ((j : ℕ) → j < i → entry_at entries j ≡ entry_at after j)
       → ((j : ℕ) → i ≤ j → j < n → entry_at entries (suc j) ≡ entry_at after j)
       → without_latest wanted (context_of entries (suc n)) ≡ context_of after n

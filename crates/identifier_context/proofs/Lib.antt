@@ -1,4 +1,3 @@
-pub mod Stores
 pub mod Contexts
 pub mod LatestEntry
 pub mod Lookups

@@ -29,7 +29,7 @@ left_without name_of (ByName n) context = refl
 left_without name_of (ByIdentifier n id) context = refl
 
 -- the index decides the answer
-pub finds : {name_of : ℕ → Name} {lookup : Lookup} {entries : List ℕ} {n : ℕ} {r : Option ℕ}
+pub finds : {name_of : ℕ → Name} {lookup : Lookup} {entries : List Entry} {n : ℕ} {r : Option ℕ}
     → r ≡ (latest_at (admitted name_of lookup) (context_of entries n)) → Finds name_of lookup entries n r
 finds {name_of} {lookup} {entries} {n} index =
     let wanted = admitted name_of lookup in

@@ -1,43 +1,40 @@
 -- The memory closed over the entry that a lookup finds holds the context without that entry.
-use Prim.Native.Nat.{ℕ, zero, suc, ◌+◌, ◌-◌, ◌*◌, ◌≤◌, ◌<◌}
-use mathlib.Core.Path.{◌≡◌, sym, ap, ◌∙◌}
+use Prim.Native.Nat.{ℕ, zero, suc, ◌+◌, ◌-◌, ◌≤◌, ◌<◌}
+use mathlib.Core.Path.{◌≡◌, sym, ◌∙◌}
 use mathlib.Core.Bool.{Bool}
 use Rattle.std.specs.Prelude.{Option, None, Some}
 use mathlib.Core.List.{List}
 use native.Mathlib.Omega.{arith}
 use native.Mathlib.Decide.{dec_lt}
-use lib.ListN.{length}
+use lib.ListN.{length, drop, length-drop}
+use lib.Seq.{length-paste}
+use Rattle.std.proofs.lemmas.Grind.{common_steps}
 use Rattle.definitions.specs.Name.{Name}
 use Rattle.definitions.specs.IdentifierContext as definition
 use Rattle.identifier_context.specs.declared.Entry.{Entry}
 use Rattle.identifier_context.specs.declared.Lookup.{Lookup}
 use Rattle.number.specs.Pairs.{NameWithin}
-use Rattle.identifier_context.specs.Memory.{entry_size, name_at, entry_at, context_of, Holds}
+use Rattle.identifier_context.specs.Memory.{name_at, entry_at, context_of, Holds}
 use Rattle.identifier_context.specs.Promises.{latest_at, entry_found, closed, closed_at, removed_at, entry_removed, length_after, admitted, Removes}
-use Rattle.identifier_context.proofs.Stores.{shifted_before, shifted_in, shifted_length}
-use Rattle.identifier_context.proofs.Contexts.{entry_same}
 use Rattle.identifier_context.proofs.LatestEntry.{Search, searched, found_below, found_latest, without_none, without_some}
 use Rattle.identifier_context.proofs.Lookups.{sought_latest, left_without}
 
-module _ (before : List ℕ) (n i : ℕ) (present : entry_size * suc n ≤ length before) (h : i ≤ n) where
+module _ (before : List Entry) (n i : ℕ) (present : suc n ≤ length before) (h : i ≤ n) where
   -- an entry before the one that is taken out stays
   closed_earlier : (j : ℕ) → j < i → entry_at before j ≡ entry_at (closed before (suc n) i) j
-  unfolding closed
-  closed_earlier j l =
-      entry_same before (closed before (suc n) i) j j
-      (λ k m. sym (shifted_before before (entry_size * i) (entry_size * (suc n - (i + 1))) (omega arith) (entry_size * j + k) (omega arith)))
+  unfolding closed entry_at
+  closed_earlier j l = grind (arith, common_steps)
 
   -- and a later one is moved down
   closed_later : (j : ℕ) → i ≤ j → j < n → entry_at before (suc j) ≡ entry_at (closed before (suc n) i) j
-  unfolding closed
-  closed_later j l m =
-      entry_same before (closed before (suc n) i) (suc j) j
-      (λ k below.
-      let into : entry_size * i + (entry_size * (j - i) + k) ≡ entry_size * j + k = omega arith in
-      let from : entry_size * i + entry_size + (entry_size * (j - i) + k) ≡ entry_size * suc j + k = omega arith in
-      sym (rw (into, from) at (shifted_in before (entry_size * i) (entry_size * (suc n - (i + 1))) (omega arith) (entry_size * (j - i) + k) (omega arith))))
+  unfolding closed entry_at
+  closed_later j l m = grind (arith, common_steps)
 
-module _ {name_of : ℕ → Name} {lookup : Lookup} {before : List ℕ} where
+  closed_length : length (closed before (suc n) i) ≡ length before
+  unfolding closed
+  closed_length = length-paste before i (drop (i + 1) before) (suc n - (i + 1)) (omega arith) (simp length-drop (omega arith))
+
+module _ {name_of : ℕ → Name} {lookup : Lookup} {before : List Entry} where
   -- where the lookup finds nothing the memory stays
   pub removes_nothing : {n : ℕ} → latest_at (admitted name_of lookup) (context_of before n) ≡ None → Removes name_of lookup before before n None
   unfolding closed_at removed_at entry_removed length_after entry_found
@@ -51,7 +48,7 @@ module _ {name_of : ℕ → Name} {lookup : Lookup} {before : List ℕ} where
       }
 
   -- else it is closed over the entry that is found
-  pub removes_entry : {n i : ℕ} → entry_size * n ≤ length before → latest_at (admitted name_of lookup) (context_of before n) ≡ Some i
+  pub removes_entry : {n i : ℕ} → n ≤ length before → latest_at (admitted name_of lookup) (context_of before n) ≡ Some i
       → Removes name_of lookup before (closed before n i) n (Some (entry_at before i, n - 1))
   unfolding closed_at removed_at entry_removed length_after entry_found
   removes_entry {n = zero} present found =
@@ -74,22 +71,17 @@ module _ {name_of : ℕ → Name} {lookup : Lookup} {before : List ℕ} where
       }
 
 -- the entries that are left after a removal are there, and their names
-module _ {pairs text before : List ℕ} where
+module _ {pairs text : List ℕ} {before : List Entry} where
   closed_holds : (n i : ℕ) → i ≤ n → Holds pairs text before (suc n) → Holds pairs text (closed before (suc n) i) n
-  unfolding closed entry_at
   closed_holds n i h holds =
-      record {
-        present =
-            rw (shifted_length before (entry_size * i) (entry_size * (suc n - (i + 1))) (omega (arith, holds.present)))
-            (omega (arith, holds.present));
-        named = λ j l. go j l (dec_lt j i);
-      }
+      let there = holds.present in
+      record { present = rw (closed_length before n i there h) (omega arith); named = λ j l. go j l (dec_lt j i) }
     where
       go : (j : ℕ) → j < n → Dec (j < i) → NameWithin pairs text (name_at (closed before (suc n) i) j)
       go j l (yes k) =
-          rw (← ap (λ (x : Entry). x.name) (closed_earlier before n i holds.present h j k)) (holds.named j (omega arith))
+          rw (name_at, ← closed_earlier before n i holds.present h j k) (holds.named j (omega arith))
       go j l (no k) =
-          rw (← ap (λ (x : Entry). x.name) (closed_later before n i holds.present h j (omega arith) l))
+          rw (name_at, ← closed_later before n i holds.present h j (omega arith) l)
           (holds.named (suc j) (omega arith))
 
   closed_at_holds : (wanted : definition.Entry → Bool) (n : ℕ) (found : Option ℕ) → Search wanted before n found
@@ -102,7 +94,7 @@ module _ {pairs text before : List ℕ} where
       let one_less : suc n - 1 ≡ n = omega arith in
       rw one_less (closed_holds n i (omega arith) holds)
 
-  pub removed_holds : {name_of : ℕ → Name} {lookup : Lookup} {after : List ℕ} {n : ℕ} {r : Option (Entry × ℕ)} → Removes name_of lookup before after n r
+  pub removed_holds : {name_of : ℕ → Name} {lookup : Lookup} {after : List Entry} {n : ℕ} {r : Option (Entry × ℕ)} → Removes name_of lookup before after n r
       → Holds pairs text before n → Holds pairs text after (length_after n r)
   removed_holds {name_of} {lookup} {n} removes holds =
       rw (removes.memory, removes.answer)

@@ -16,6 +16,7 @@ use Rattle.definitions.specs.Text.{occurs, firsts_after}
 use Rattle.definitions.specs.IdentifierContext.{len, same_name}
 use Rattle.definitions.specs.IdentifierContext as definition
 use Rattle.search.specs.Highest.{highest}
+use Rattle.identifier_context.specs.declared.Entry.{Entry}
 use Rattle.identifier_context.specs.declared.Lookup.TheVariants.{ByName}
 use Rattle.identifier_context.specs.Memory.{name_at, entry_of, entry_at, context_of}
 use Rattle.identifier_context.specs.Promises.{latest_at, admitted, is_visible, visible_before, visible_from, latest_visible, Shows}
@@ -23,7 +24,7 @@ use Rattle.identifier_context.proofs.Firsts.{listed, same_self, passed_over}
 use Rattle.identifier_context.proofs.Contexts.{context_length}
 use Rattle.identifier_context.proofs.LatestEntry.{Search, over, passes, ends, searched}
 
-module _ (name_of : ℕ → Name) (entries : List ℕ) where
+module _ (name_of : ℕ → Name) (entries : List Entry) where
   entry_in : ℕ → definition.Entry
   entry_in i = entry_of (entry_at entries i)
 
@@ -57,7 +58,7 @@ module _ (name_of : ℕ → Name) (entries : List ℕ) where
 
   pub visible_at : {n i : ℕ} {found : Option ℕ} → i < n
       → latest_at (admitted name_of (ByName (name_at entries i))) (context_of entries n) ≡ found → option_eq eqb found (Some i) ≡ is_visible name_of entries n i
-  unfolding admitted same_name entry_in entry_of entry_at
+  unfolding admitted same_name entry_in entry_of
   visible_at {n} {i} h e = visible_found i h (rw e at (searched (admitted name_of (ByName (name_at entries i))) entries n))
 
   dropped : (n k : ℕ) → k ≤ n → drop k (context_of entries n) ≡ context_of entries (n - k)

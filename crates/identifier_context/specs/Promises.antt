@@ -1,7 +1,6 @@
--- What each operation promises of its answer, of the context, and of every number of the lent memory.
-use Rattle.std.specs.Prelude.{ℕ, zero, suc, min, ◌+◌, ◌-◌, ◌*◌, ◌/◌, ◌<◌, ◌≡◌, Bool, not, cond, List, [], ◌∷◌, length, take, drop, Option, None, Some, Result, Err, Ok}
-use Rattle.std.proofs.lemmas.List.Edits.{sets}
-use Rattle.std.proofs.Math.Seq.{paste}
+-- What each operation promises of its answer, of the context, and of every entry of the lent memory.
+use Rattle.std.specs.Prelude.{ℕ, zero, suc, min, ◌+◌, ◌-◌, ◌<◌, ◌≡◌, Bool, not, cond, List, [], ◌∷◌, length, take, drop, set, Option, None, Some, Result, Err, Ok}
+use Rattle.std.specs.List.{copy_within}
 use Rattle.definitions.specs.Outcome.{Outcome, refused, accepted}
 use Rattle.definitions.specs.Name.{Name}
 use Rattle.definitions.specs.Tree.{Identifier}
@@ -11,25 +10,22 @@ use Rattle.definitions.specs.IdentifierContext as definition
 use Rattle.identifier_context.specs.declared.Entry.{Entry}
 use Rattle.identifier_context.specs.declared.Lookup.{Lookup}
 use Rattle.identifier_context.specs.declared.Lookup.TheVariants.{ByName, ByIdentifier}
-use Rattle.identifier_context.specs.Memory.{entry_size, entry_of, entry_at, context_of}
+use Rattle.identifier_context.specs.Memory.{entry_of, entry_at, context_of}
 use Rattle.definitions.specs.declared.Refusal.{Refusal}
 
-abbrev pub numbers_of : Entry → List ℕ
-numbers_of e = e.name ∷ e.id ∷ e.kind ∷ e.number ∷ []
-
--- the memory after an insertion: as it was where that is refused, else with the entry's four numbers stored after n entries
-unfoldable pub memory_after : List ℕ → ℕ → Entry → Result ℕ Refusal → List ℕ
+-- the memory after an insertion: as it was where that is refused, else with the entry stored after n entries
+unfoldable pub memory_after : List Entry → ℕ → Entry → Result ℕ Refusal → List Entry
 memory_after before n e (Err r) = before
-memory_after before n e (Ok m) = sets before (entry_size * n) (numbers_of e)
+memory_after before n e (Ok m) = set before n e
 
 -- the context after it
-unfoldable pub context_after : List ℕ → Result ℕ Refusal → Outcome IdentifierContext
+unfoldable pub context_after : List Entry → Result ℕ Refusal → Outcome IdentifierContext
 context_after after (Err r) = refused r
 context_after after (Ok m) = accepted (context_of after m)
 
-pub record Inserts (before after : List ℕ) (n : ℕ) (e : Entry) (r : Result ℕ Refusal) : Type 0 where
+pub record Inserts (before after : List Entry) (n : ℕ) (e : Entry) (r : Result ℕ Refusal) : Type 0 where
   pub memory : after ≡ memory_after before n e r
-  pub context : context_after after r ≡ definition.insert (length before / entry_size) (entry_of e) (context_of before n)
+  pub context : context_after after r ≡ definition.insert (length before) (entry_of e) (context_of before n)
 
 -- the number of the name that is looked up
 abbrev pub name_asked : Lookup → ℕ
@@ -42,24 +38,20 @@ latest_at wanted [] = None
 latest_at wanted (e ∷ context) = cond (wanted e) (Some (len context)) (latest_at wanted context)
 
 -- the entry of an answer's index
-unfoldable pub entry_found : List ℕ → Option ℕ → Option definition.Entry
+unfoldable pub entry_found : List Entry → Option ℕ → Option definition.Entry
 entry_found entries None = None
 entry_found entries (Some i) = Some (entry_of (entry_at entries i))
 
--- the memory with so many numbers, from a place on, replaced by those that stand one entry later, and no other changed
-unfoldable pub shifted : List ℕ → ℕ → ℕ → List ℕ
-shifted before at count = paste before at (drop (at + entry_size) before) count
+-- the memory after a removal from n entries: the later entries stand one place down, and all others are as they were
+unfoldable pub closed : List Entry → ℕ → ℕ → List Entry
+closed before n i = copy_within before (i + 1) n i
 
--- the memory after a removal from n entries: the later entries stand one place down, and all other numbers are as they were
-unfoldable pub closed : List ℕ → ℕ → ℕ → List ℕ
-closed before n i = shifted before (entry_size * i) (entry_size * (n - (i + 1)))
-
-unfoldable pub closed_at : List ℕ → ℕ → Option ℕ → List ℕ
+unfoldable pub closed_at : List Entry → ℕ → Option ℕ → List Entry
 closed_at before n None = before
 closed_at before n (Some i) = closed before n i
 
 -- its answer, and what that says
-unfoldable pub removed_at : List ℕ → ℕ → Option ℕ → Option (Entry × ℕ)
+unfoldable pub removed_at : List Entry → ℕ → Option ℕ → Option (Entry × ℕ)
 removed_at before n None = None
 removed_at before n (Some i) = Some (entry_at before i, n - 1)
 
@@ -90,20 +82,20 @@ module _ (name_of : ℕ → Name) where
   left (ByIdentifier n id) = remove name_of (identifier_of n id)
 
   -- a lookup answers the index of the entry that it seeks, the latest that it admits
-  pub record Finds (lookup : Lookup) (entries : List ℕ) (n : ℕ) (r : Option ℕ) : Type 0 where
+  pub record Finds (lookup : Lookup) (entries : List Entry) (n : ℕ) (r : Option ℕ) : Type 0 where
     pub index : r ≡ (latest_at (admitted lookup) (context_of entries n))
     pub below : (i : ℕ) → r ≡ Some i → i < n
     pub entry : entry_found entries r ≡ sought lookup (context_of entries n)
 
   -- a removal answers that entry and the length after it, and takes the entry out
-  pub record Removes (lookup : Lookup) (before after : List ℕ) (n : ℕ) (r : Option (Entry × ℕ)) : Type 0 where
+  pub record Removes (lookup : Lookup) (before after : List Entry) (n : ℕ) (r : Option (Entry × ℕ)) : Type 0 where
     pub memory : after ≡ closed_at before n (latest_at (admitted lookup) (context_of before n))
     pub answer : r ≡ removed_at before n (latest_at (admitted lookup) (context_of before n))
     pub entry : entry_removed r ≡ sought lookup (context_of before n)
     pub context : context_of after (length_after n r) ≡ left lookup (context_of before n)
 
   -- no later entry has the name of the entry of an index
-  unfoldable pub is_visible : List ℕ → ℕ → ℕ → Bool
+  unfoldable pub is_visible : List Entry → ℕ → ℕ → Bool
   is_visible entries n i = not (occurs (same_name name_of) (entry_of (entry_at entries i)) (take (n - suc i) (context_of entries n)))
 
   -- what `getAllVisible` lists of the entries before an index: all of it, where the index is the count
@@ -111,16 +103,16 @@ module _ (name_of : ℕ → Name) where
   visible_before context i = firsts_after (same_name name_of) (take (len context - i) context) (drop (len context - i) context)
 
   -- an answer's entry, and what is listed after it
-  unfoldable pub visible_from : List ℕ → ℕ → Option ℕ → List definition.Entry
+  unfoldable pub visible_from : List Entry → ℕ → Option ℕ → List definition.Entry
   visible_from entries n None = []
   visible_from entries n (Some i) = entry_of (entry_at entries i) ∷ visible_before (context_of entries n) i
 
   -- the index of the latest visible entry before one
-  unfoldable pub latest_visible : List ℕ → ℕ → ℕ → Option ℕ
+  unfoldable pub latest_visible : List Entry → ℕ → ℕ → Option ℕ
   latest_visible entries n zero = None
   latest_visible entries n (suc i) = cond (is_visible entries n i) (Some i) (latest_visible entries n i)
 
   -- an answer is that index among the n entries: its entry is what `getAllVisible` lists next
-  pub record Shows (entries : List ℕ) (n before : ℕ) (r : Option ℕ) : Type 0 where
+  pub record Shows (entries : List Entry) (n before : ℕ) (r : Option ℕ) : Type 0 where
     pub index : r ≡ (latest_visible entries n (min before n))
     pub listed : visible_from entries n r ≡ visible_before (context_of entries n) before

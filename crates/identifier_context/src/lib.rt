@@ -1,24 +1,20 @@
-// The name context, after the Rust's identifier_context.rs, in lent memory: four numbers for each entry, the oldest entry first.
+// The name context, after the Rust's identifier_context.rs, in lent memory, the oldest entry first.
 // Names are numbers of the sheet, and equal where their bytes are.
 #![tactic(auto)]
 
-ghost use Rattle.std.specs.Prelude.{◌≡◌, ◌+◌, ◌-◌, ◌*◌, ◌≤◌, ◌<◌, length};
+ghost use Rattle.std.specs.Prelude.{◌≡◌, ◌<◌, length};
 ghost use Rattle.definitions.specs.Name.{eq_name};
-ghost use Rattle.identifier_context.specs.Memory.{Holds, entry_size, name_at, entry_of, entry_at};
-ghost use Rattle.identifier_context.specs.Promises.{numbers_of, Finds, name_asked, admitted, closed, is_visible, Shows};
+ghost use Rattle.identifier_context.specs.Memory.{name_at, entry_of, entry_at};
+ghost use Rattle.identifier_context.specs.Promises.{Finds, name_asked, admitted, is_visible, Shows};
 ghost use Rattle.identifier_context.specs.Lent.{name_in, IsNamed, IsHeld, InsertsInto, RemovesFrom};
-ghost use Rattle.std.proofs.lemmas.List.Edits.{sets};
 
 use definitions::{Reason, Refusal};
 use identifier::same_bytes;
 use number::Marked;
 use search::highest;
 
-// The numbers of an entry.
-pub const ENTRY_SIZE: usize = 4;
-
 // The name and id of an identifier, and its type: kind 0 and a proposition's number, or kind 1 and the number of a datatype's name.
-// An insertion stores every number as a kind, so an enum of the two would narrow it.
+// `kind` stays a number: an insertion stores every number, and a narrower type would ask more of who inserts.
 #[derive(Debug, Clone, Copy, PartialEq, Eq)]
 pub struct Entry {
     pub name: u16,
@@ -34,28 +30,11 @@ pub enum Lookup {
     ByIdentifier(u16, u16),
 }
 
-// Stores the four numbers of an entry, from a place on.
-fn store(entries: &mut [u16], at: usize, entry: Entry)
-    requires { at + entry_size ≤ length entries.old }
-    ensures { entries.new ≡ sets entries.old at (numbers_of entry) }
-{
-    entries[at..at + ENTRY_SIZE].copy_from_slice(&[entry.name, entry.id, entry.kind, entry.number]);
-}
-
-// Moves the entries that are later than that of an index one place down, over it.
-#[tactic(auto, using(crate::proofs::Stores::closed_is))]
-fn close(entries: &mut [u16], len: usize, i: usize)
-    requires { (i < len) × (entry_size * len ≤ length entries.old) }
-    ensures { entries.new ≡ closed entries.old len i }
-{
-    entries.copy_within(ENTRY_SIZE * (i + 1)..ENTRY_SIZE * len, ENTRY_SIZE * i);
-}
-
 // Lent memory, how many entries of a context it holds, and what their names are. That each entry's number is a name's is asked of a lookup
 // and is no invariant, since an insertion stores every number.
 #[derive(Drop)]
 pub struct Context<'a> {
-    pub entries: &'a mut [u16],
+    pub entries: &'a mut [Entry],
     pub len: usize,
     pub names: Marked<'a>,
 }
@@ -65,27 +44,12 @@ impl Context<'_> {
     pub fn insert(&mut self, entry: Entry) -> Result<(), Refusal>
         ensures { InsertsInto self.old entry result self.new }
     {
-        if self.entries.len() / ENTRY_SIZE <= self.len {
+        if self.entries.len() <= self.len {
             return Err(Reason::Room.at(0));
         }
-        store(self.entries, ENTRY_SIZE * self.len, entry);
+        self.entries[self.len] = entry;
         self.len += 1;
         Ok(())
-    }
-
-    // The entry of an index.
-    #[tactic(auto, unfolding(crate::specs::Memory::entry_at, crate::specs::Memory::name_at))]
-    pub fn entry_at(&self, i: usize) -> Entry
-        requires { entry_size * (i + 1) ≤ length self.now.entries.now }
-        ensures { result ≡ entry_at self.now.entries.now i }
-    {
-        let at = ENTRY_SIZE * i;
-        Entry {
-            name: self.entries[at],
-            id: self.entries[at + 1],
-            kind: self.entries[at + 2],
-            number: self.entries[at + 3],
-        }
     }
 
     // Whether the names of two numbers have the same bytes.
@@ -99,12 +63,12 @@ impl Context<'_> {
     // Whether a lookup admits the entry of an index.
     #[tactic(auto, using(crate::proofs::Lookups::admits_name), unfolding(crate::specs::Memory::entry_at))]
     fn admits(&self, i: usize, lookup: Lookup) -> bool
-        requires { (entry_size * (i + 1) ≤ length self.now.entries.now)
+        requires { (i < length self.now.entries.now)
             × IsNamed self.now (name_at self.now.entries.now i)
             × IsNamed self.now (name_asked lookup) }
         ensures { result ≡ admitted (name_in self.now) lookup (entry_of (entry_at self.now.entries.now i)) }
     {
-        let entry = self.entry_at(i);
+        let entry = self.entries[i];
         match lookup {
             Lookup::ByName(name) => self.same_name(name, entry.name),
             Lookup::ByIdentifier(name, id) => id == entry.id && self.same_name(name, entry.name),
@@ -143,8 +107,8 @@ impl Context<'_> {
         ensures { RemovesFrom self.old lookup result self.new }
     {
         let i = self.find(lookup)?;
-        let entry = self.entry_at(i);
-        close(self.entries, self.len, i);
+        let entry = self.entries[i];
+        self.entries.copy_within(i + 1..self.len, i);
         self.len -= 1;
         Some(entry)
     }
@@ -170,8 +134,7 @@ impl Context<'_> {
         requires { IsHeld self.now × (i < self.now.«len») }
         ensures { result ≡ is_visible (name_in self.now) self.now.entries.now self.now.«len» i }
     {
-        let entry = self.entry_at(i);
-        self.find(Lookup::ByName(entry.name)) == Some(i)
+        self.find(Lookup::ByName(self.entries[i].name)) == Some(i)
     }
 
     // The index of the latest visible entry before one: from the count on, this hands out what the Rust's get_all_visible collects.

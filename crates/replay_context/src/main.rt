@@ -6,7 +6,7 @@ ghost use Rattle.std.specs.Prelude.{◌≡◌, Bool, ◌≤◌};
 ghost use Rattle.number.specs.Pairs.{NameWithin};
 ghost use Rattle.identifier_context.specs.Lent.{IsNamed, IsHeld};
 
-use identifier_context::{Context, ENTRY_SIZE, Entry};
+use identifier_context::{Context, Entry};
 use input::{read_array, read_u16};
 use number::{Marked, PAIR_SIZE, pair_length, pair_offset};
 use std::{fs, io};
@@ -38,8 +38,11 @@ impl From<u16> for Question {
     }
 }
 
-// The most numbers that are lent.
-const ROOM: usize = 64;
+// The most entries that are lent.
+const ROOM: usize = 16;
+
+// The numbers of an entry, in which the list says the lent room.
+const ENTRY_NUMBERS: usize = 4;
 
 // The bytes of a context's names: eight pairs, and their text.
 const PAIR_BYTES: usize = 32;
@@ -96,11 +99,7 @@ fn listed(answer: Answer) -> (u16, Entry) {
 
 // The entry of an index that an operation found.
 fn found_entry(context: &Context, found: Option<usize>) -> Option<Entry> {
-    let i = found?;
-    if context.entries.len() / ENTRY_SIZE <= i {
-        return None;
-    }
-    Some(context.entry_at(i))
+    context.entries.get(found?).copied()
 }
 
 // Whether a number has a pair that ends within the text. Both slices are passed, since what bytes are at most is known of a parameter.
@@ -202,7 +201,7 @@ fn agrees(rest: &mut &[u8], len: usize, answer: Answer) -> bool {
 }
 
 // How many of the answers to a context's questions agree. The context is empty at first.
-fn agreeing(rest: &mut &[u8], entries: &mut [u16], names: Marked) -> usize
+fn agreeing(rest: &mut &[u8], entries: &mut [Entry], names: Marked) -> usize
     ensures { result ≤ 40 }
 {
     let mut context = Context {
@@ -220,14 +219,14 @@ fn agreeing(rest: &mut &[u8], entries: &mut [u16], names: Marked) -> usize
     agreed
 }
 
-// Asks the questions of the next context, in memory of so many numbers as the list says.
+// Asks the questions of the next context, in memory for so many entries as the list says.
 fn ask_all(rest: &mut &[u8]) -> usize
     ensures { result ≤ 40 }
 {
     let pairs = read_array::<PAIR_BYTES>(rest);
     let text = read_array::<TEXT_BYTES>(rest);
-    let mut memory = [0u16; ROOM];
-    let lent = usize::from(read_u16(rest)).min(ROOM);
+    let mut memory = [NO_ENTRY; ROOM];
+    let lent = (usize::from(read_u16(rest)) / ENTRY_NUMBERS).min(ROOM);
     let names = Marked {
         pairs: &pairs,
         bytes: &text,

@@ -6,10 +6,8 @@ use Rattle.identifier_context.proofs.Context.is_visible.Goals as goal
 
 pub find-requires : goal.find-requires
 unfolding entry_at
-find-requires c = (c.requires.0, rw c.entry_at-entry.ensures (c.requires.0.named _ c.requires.1))
+find-requires c = (c.requires.0, c.requires.0.named _ c.requires.1)
 
 pub returns : goal.returns
 unfolding entry_at
-returns c =
-    let index = rw c.entry_at-entry.ensures at c.find.ensures.index in
-    c.eq.ensures ∙ visible_at _ _ c.requires.1 (sym index)
+returns c = c.eq.ensures ∙ visible_at _ _ c.requires.1 (sym c.find.ensures.index)
