@@ -42,7 +42,7 @@ module _ (before : List Entry) (n : ℕ) (e : Entry) (room : n < length before) 
       record { memory = refl; context = rw (context_length before n, lt-leb _ _ room) (cc) }
 
   -- the entries are there, and their names
-  stored_holds : {pairs text : List ℕ} → Holds pairs text before n → NameWithin pairs text e.name → Holds pairs text (set before n e) (suc n)
+  stored_holds : {pairs text : List ℕ} → Holds pairs text before n → NameWithin pairs text e.identifier.name → Holds pairs text (set before n e) (suc n)
   stored_holds {pairs} {text} holds named =
       record { present = simp length-set (omega arith); named = λ i h. go i h (dec_lt i n) }
     where
@@ -59,7 +59,7 @@ unrefused false h = (refl, cc)
 
 -- so it is after an insertion
 pub inserted_holds : {pairs text : List ℕ} {before after : List Entry} {n m : ℕ} {e : Entry} → Inserts before after n e (Ok m)
-    → Holds pairs text before n → NameWithin pairs text e.name → Holds pairs text after m
+    → Holds pairs text before n → NameWithin pairs text e.identifier.name → Holds pairs text after m
 unfolding memory_after context_after definition.insert len
 inserted_holds {before} {after} {n} {m} {e} inserts holds named =
     let accepts = unrefused (leb (length before) (length (context_of before n))) inserts.context in

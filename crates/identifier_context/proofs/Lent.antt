@@ -9,7 +9,7 @@ use Rattle.identifier_context.specs.Promises.{memory_after, length_after}
 use Rattle.identifier_context.proofs.Insertion.{inserted_holds}
 use Rattle.identifier_context.proofs.Removal.{removed_holds}
 
-pub held_inserted : {a b : Context} {e : Entry} (r : Result (Unit {0}) Refusal) → InsertsInto a e r b → IsHeld a → IsNamed a e.name → IsHeld b
+pub held_inserted : {a b : Context} {e : Entry} (r : Result (Unit {0}) Refusal) → InsertsInto a e r b → IsHeld a → IsNamed a e.identifier.name → IsHeld b
 unfolding with_count memory_after
 held_inserted (Err x) h held named = rw (h.place.same_names, h.inserts.memory, h.count) held
 held_inserted (Ok t) h held named = rw h.place.same_names (inserted_holds h.inserts held named)

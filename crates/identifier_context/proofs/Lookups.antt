@@ -10,6 +10,7 @@ use Rattle.definitions.specs.Tree.{rename_identifier}
 use Rattle.definitions.specs.Comparison.{eq_identifier}
 use Rattle.definitions.specs.IdentifierContext.{IdentifierContext, latest, without_latest, has_name, has_identifier, get_by_name, get, remove_by_name, remove}
 use Rattle.identifier_context.specs.declared.Entry.{Entry}
+use Rattle.identifier_context.specs.declared.Identifier.{Identifier}
 use Rattle.identifier_context.specs.declared.Lookup.{Lookup}
 use Rattle.identifier_context.specs.declared.Lookup.TheVariants.{ByName, ByIdentifier}
 use Rattle.identifier_context.specs.Memory.{entry_of, context_of}
@@ -20,13 +21,13 @@ pub sought_latest : (name_of : ℕ → Name) (lookup : Lookup) (context : Identi
     → latest (admitted name_of lookup) context ≡ sought name_of lookup context
 unfolding admitted sought get_by_name get
 sought_latest name_of (ByName n) context = refl
-sought_latest name_of (ByIdentifier n id) context = refl
+sought_latest name_of (ByIdentifier a) context = refl
 
 pub left_without : (name_of : ℕ → Name) (lookup : Lookup) (context : IdentifierContext)
     → without_latest (admitted name_of lookup) context ≡ left name_of lookup context
 unfolding admitted left remove_by_name remove
 left_without name_of (ByName n) context = refl
-left_without name_of (ByIdentifier n id) context = refl
+left_without name_of (ByIdentifier a) context = refl
 
 -- the index decides the answer
 pub finds : {name_of : ℕ → Name} {lookup : Lookup} {entries : List Entry} {n : ℕ} {r : Option ℕ}
@@ -40,18 +41,18 @@ finds {name_of} {lookup} {entries} {n} index =
       entry = rw index (found_latest wanted entries search ∙ sought_latest name_of lookup (context_of entries n));
     }
 
--- A lookup by name admits an entry of the name's bytes; one by name and id that of the id too.
+-- A lookup by name admits an entry of the name's bytes; one by an identifier that of its id too.
 module _ (name_of : ℕ → Name) (e : Entry) where
-  pub admits_name : {lookup : Lookup} {n : ℕ} → lookup ≡ ByName n → eq_name (name_of n) (name_of e.name) ≡ admitted name_of lookup (entry_of e)
+  pub admits_name : {lookup : Lookup} {n : ℕ} → lookup ≡ ByName n → eq_name (name_of n) (name_of e.identifier.name) ≡ admitted name_of lookup (entry_of e)
   unfolding admitted has_name entry_of
   admits_name asked = rw asked
 
-  pub admits_identifier : {lookup : Lookup} {n id : ℕ} → lookup ≡ ByIdentifier n id → id ≡ e.id
-      → eq_name (name_of n) (name_of e.name) ≡ admitted name_of lookup (entry_of e)
+  pub admits_identifier : {lookup : Lookup} {a : Identifier} → lookup ≡ ByIdentifier a → a.unique_id ≡ e.identifier.unique_id
+      → eq_name (name_of a.name) (name_of e.identifier.name) ≡ admitted name_of lookup (entry_of e)
   unfolding admitted has_identifier eq_identifier rename_identifier identifier_of entry_of
   admits_identifier asked alike = rw (asked, eq-eqb _ _ alike) (sym (and-true _))
 
-  pub admits_no_other_id : {lookup : Lookup} {n id : ℕ} → lookup ≡ ByIdentifier n id → (id ≡ e.id → ⊥)
-      → eqb id e.id ≡ admitted name_of lookup (entry_of e)
+  pub admits_no_other_id : {lookup : Lookup} {a : Identifier} → lookup ≡ ByIdentifier a → (a.unique_id ≡ e.identifier.unique_id → ⊥)
+      → eqb a.unique_id e.identifier.unique_id ≡ admitted name_of lookup (entry_of e)
   unfolding admitted has_identifier eq_identifier rename_identifier identifier_of entry_of
   admits_no_other_id asked other = rw (asked, ne_eqb _ _ other) (sym (and-false _))

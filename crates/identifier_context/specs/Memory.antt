@@ -9,19 +9,19 @@ use Rattle.identifier_context.specs.declared.Entry.{Entry}
 unfoldable pub type_of : ℕ → ℕ → EntryType
 type_of kind number = cond (eqb kind 0) (proposition number) (datatype number)
 
--- the entry that four numbers are
+-- what an entry's numbers say
 unfoldable pub entry_of : Entry → definition.Entry
-entry_of e = record { identifier = record { name = e.name; unique_id = e.id }; type = type_of e.kind e.number }
+entry_of e = record { identifier = record { name = e.identifier.name; unique_id = e.identifier.unique_id }; type = type_of e.kind e.number }
 
 -- Of the lent memory:
 module _ (entries : List Entry) where
   -- the entry of an index; past the end its numbers are zeros
   unfoldable pub entry_at : ℕ → Entry
-  entry_at i = get_or entries i (record { name = 0; id = 0; kind = 0; number = 0 })
+  entry_at i = get_or entries i (record { identifier = record { name = 0; unique_id = 0 }; kind = 0; number = 0 })
 
   -- the number of its name
   abbrev pub name_at : ℕ → ℕ
-  name_at i = (entry_at i).name
+  name_at i = (entry_at i).identifier.name
 
   -- the context of the first n entries
   unfoldable pub context_of : ℕ → IdentifierContext

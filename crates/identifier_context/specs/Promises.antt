@@ -3,11 +3,12 @@ use Rattle.std.specs.Prelude.{ℕ, zero, suc, min, ◌+◌, ◌-◌, ◌<◌, �
 use Rattle.std.specs.List.{copy_within}
 use Rattle.definitions.specs.Outcome.{Outcome, refused, accepted}
 use Rattle.definitions.specs.Name.{Name}
-use Rattle.definitions.specs.Tree.{Identifier}
+use Rattle.definitions.specs.Tree as tree
 use Rattle.definitions.specs.Text.{occurs, firsts_after}
 use Rattle.definitions.specs.IdentifierContext.{IdentifierContext, len, has_name, has_identifier, get_by_name, get, remove_by_name, remove, same_name}
 use Rattle.definitions.specs.IdentifierContext as definition
 use Rattle.identifier_context.specs.declared.Entry.{Entry}
+use Rattle.identifier_context.specs.declared.Identifier.{Identifier}
 use Rattle.identifier_context.specs.declared.Lookup.{Lookup}
 use Rattle.identifier_context.specs.declared.Lookup.TheVariants.{ByName, ByIdentifier}
 use Rattle.identifier_context.specs.Memory.{entry_of, entry_at, context_of}
@@ -30,7 +31,7 @@ pub record Inserts (before after : List Entry) (n : ℕ) (e : Entry) (r : Result
 -- the number of the name that is looked up
 abbrev pub name_asked : Lookup → ℕ
 name_asked (ByName n) = n
-name_asked (ByIdentifier n id) = n
+name_asked (ByIdentifier a) = a.name
 
 -- the index of the latest entry that a test admits, counted from the oldest
 unfoldable pub latest_at : (definition.Entry → Bool) → IdentifierContext → Option ℕ
@@ -65,21 +66,21 @@ length_after n (Some (e, m)) = m
 
 -- Of the name of each number:
 module _ (name_of : ℕ → Name) where
-  unfoldable pub identifier_of : ℕ → ℕ → Identifier Name
-  identifier_of n id = record { name = name_of n; unique_id = id }
+  unfoldable pub identifier_of : Identifier → tree.Identifier Name
+  identifier_of a = record { name = name_of a.name; unique_id = a.unique_id }
 
   -- what a lookup admits, what it seeks, and what a removal of that leaves
   unfoldable pub admitted : Lookup → definition.Entry → Bool
   admitted (ByName n) = has_name name_of (name_of n)
-  admitted (ByIdentifier n id) = has_identifier name_of (identifier_of n id)
+  admitted (ByIdentifier a) = has_identifier name_of (identifier_of a)
 
   unfoldable pub sought : Lookup → IdentifierContext → Option definition.Entry
   sought (ByName n) = get_by_name name_of (name_of n)
-  sought (ByIdentifier n id) = get name_of (identifier_of n id)
+  sought (ByIdentifier a) = get name_of (identifier_of a)
 
   unfoldable pub left : Lookup → IdentifierContext → IdentifierContext
   left (ByName n) = remove_by_name name_of (name_of n)
-  left (ByIdentifier n id) = remove name_of (identifier_of n id)
+  left (ByIdentifier a) = remove name_of (identifier_of a)
 
   -- a lookup answers the index of the entry that it seeks, the latest that it admits
   pub record Finds (lookup : Lookup) (entries : List Entry) (n : ℕ) (r : Option ℕ) : Type 0 where

@@ -13,25 +13,31 @@ use identifier::same_bytes;
 use number::Marked;
 use search::highest;
 
-// The name and id of an identifier, and its type: kind 0 and a proposition's number, or kind 1 and the number of a datatype's name.
+// A name, by its number, and an id.
+#[derive(Debug, Clone, Copy, PartialEq, Eq)]
+pub struct Identifier {
+    pub name: u16,
+    pub unique_id: u16,
+}
+
+// An identifier and its type: kind 0 and a proposition's number, or kind 1 and the number of a datatype's name.
 // `kind` stays a number: an insertion stores every number, and a narrower type would ask more of who inserts.
 #[derive(Debug, Clone, Copy, PartialEq, Eq)]
 pub struct Entry {
-    pub name: u16,
-    pub id: u16,
+    pub identifier: Identifier,
     pub kind: u16,
     pub number: u16,
 }
 
-// What is looked up: the latest entry of a name, or of a name and an id. The contracts speak of it, where a closure would have no name.
+// What is looked up: the latest entry of a name, or of an identifier. The contracts speak of it, where a closure would have no name.
 #[derive(Debug, Clone, Copy, PartialEq, Eq)]
 pub enum Lookup {
     ByName(u16),
-    ByIdentifier(u16, u16),
+    ByIdentifier(Identifier),
 }
 
-// Lent memory, how many entries of a context it holds, and what their names are. That each entry's number is a name's is asked of a lookup
-// and is no invariant, since an insertion stores every number.
+// Lent memory, how many entries of a context it holds, and what their names are. No invariant says that the entries are there and that
+// their numbers are names': `insert` promises to store every number, for which neither document 01 nor the Rust has a condition.
 #[derive(Drop)]
 pub struct Context<'a> {
     pub entries: &'a mut [Entry],
@@ -68,10 +74,11 @@ impl Context<'_> {
             × IsNamed self.now (name_asked lookup) }
         ensures { result ≡ admitted (name_in self.now) lookup (entry_of (entry_at self.now.entries.now i)) }
     {
-        let entry = self.entries[i];
+        let own = self.entries[i].identifier;
         match lookup {
-            Lookup::ByName(name) => self.same_name(name, entry.name),
-            Lookup::ByIdentifier(name, id) => id == entry.id && self.same_name(name, entry.name),
+            Lookup::ByName(name) => self.same_name(name, own.name),
+            Lookup::ByIdentifier(wanted) => wanted.unique_id == own.unique_id
+                && self.same_name(wanted.name, own.name),
         }
     }
 
@@ -83,7 +90,7 @@ impl Context<'_> {
         highest(self.len, |i| self.admits(i, lookup))
     }
 
-    // The lookups and the removals, by a name and by a name and an id, are the four operations of the Rust: each is its own function there.
+    // The lookups and the removals, by a name and by an identifier, are the four operations of the Rust: each is its own function there.
 
     // The index of the latest entry of a name.
     pub fn get_by_name(&self, name: u16) -> Option<usize>
@@ -93,12 +100,12 @@ impl Context<'_> {
         self.find(Lookup::ByName(name))
     }
 
-    // The index of the latest entry of a name and an id.
-    pub fn get(&self, name: u16, id: u16) -> Option<usize>
-        requires { IsHeld self.now × IsNamed self.now name }
-        ensures { Finds (name_in self.now) (Lookup.ByIdentifier name id) self.now.entries.now self.now.«len» result }
+    // The index of the latest entry of an identifier.
+    pub fn get(&self, identifier: Identifier) -> Option<usize>
+        requires { IsHeld self.now × IsNamed self.now identifier.«name» }
+        ensures { Finds (name_in self.now) (Lookup.ByIdentifier identifier) self.now.entries.now self.now.«len» result }
     {
-        self.find(Lookup::ByIdentifier(name, id))
+        self.find(Lookup::ByIdentifier(identifier))
     }
 
     // Takes out the latest entry that a lookup admits, and returns it.
@@ -121,12 +128,12 @@ impl Context<'_> {
         self.remove_latest(Lookup::ByName(name))
     }
 
-    // Takes out the latest entry of a name and an id.
-    pub fn remove(&mut self, name: u16, id: u16) -> Option<Entry>
-        requires { IsHeld self.old × IsNamed self.old name }
-        ensures { RemovesFrom self.old (Lookup.ByIdentifier name id) result self.new }
+    // Takes out the latest entry of an identifier.
+    pub fn remove(&mut self, identifier: Identifier) -> Option<Entry>
+        requires { IsHeld self.old × IsNamed self.old identifier.«name» }
+        ensures { RemovesFrom self.old (Lookup.ByIdentifier identifier) result self.new }
     {
-        self.remove_latest(Lookup::ByIdentifier(name, id))
+        self.remove_latest(Lookup::ByIdentifier(identifier))
     }
 
     // Whether no later entry has the name of the entry of an index.
@@ -134,7 +141,7 @@ impl Context<'_> {
         requires { IsHeld self.now × (i < self.now.«len») }
         ensures { result ≡ is_visible (name_in self.now) self.now.entries.now self.now.«len» i }
     {
-        self.find(Lookup::ByName(self.entries[i].name)) == Some(i)
+        self.find(Lookup::ByName(self.entries[i].identifier.name)) == Some(i)
     }
 
     // The index of the latest visible entry before one: from the count on, this hands out what the Rust's get_all_visible collects.

@@ -6,12 +6,12 @@ ghost use Rattle.std.specs.Prelude.{◌≡◌, Bool, ◌≤◌};
 ghost use Rattle.number.specs.Pairs.{NameWithin};
 ghost use Rattle.identifier_context.specs.Lent.{IsNamed, IsHeld};
 
-use identifier_context::{Context, Entry};
+use identifier_context::{Context, Entry, Identifier};
 use input::{read_array, read_u16};
 use number::{Marked, PAIR_SIZE, pair_length, pair_offset};
 use std::{fs, io};
 
-// What a question asks for. The entry beside it is to be inserted, or has the name and the id that are looked for.
+// What a question asks for. The entry beside it is to be inserted, or has the identifier that is looked for.
 #[derive(Debug, Clone, Copy, PartialEq, Eq)]
 enum Question {
     Insert,
@@ -72,9 +72,12 @@ impl Turn {
 
 // The list's next entry. `rest` is what is left of the list; past its end there are zeros.
 fn read_entry(rest: &mut &[u8]) -> Entry {
-    Entry {
+    let identifier = Identifier {
         name: read_u16(rest),
-        id: read_u16(rest),
+        unique_id: read_u16(rest),
+    };
+    Entry {
+        identifier,
         kind: read_u16(rest),
         number: read_u16(rest),
     }
@@ -82,8 +85,10 @@ fn read_entry(rest: &mut &[u8]) -> Entry {
 
 // The entry of an answer without one.
 const NO_ENTRY: Entry = Entry {
-    name: 0,
-    id: 0,
+    identifier: Identifier {
+        name: 0,
+        unique_id: 0,
+    },
     kind: 0,
     number: 0,
 };
@@ -114,7 +119,7 @@ fn is_name(pairs: &[u8], text: &[u8], name: usize) -> bool
 
 // Makes an entry the latest.
 fn insert(context: &mut Context, entry: Entry) -> Turn
-    requires { IsHeld context.old × IsNamed context.old entry.«name» }
+    requires { IsHeld context.old × IsNamed context.old entry.identifier.«name» }
     ensures { IsHeld context.new }
 {
     let inserted = context.insert(entry);
@@ -133,12 +138,12 @@ fn remove_by_name(context: &mut Context, name: u16) -> Turn
     Turn::new(context, Ok(removed))
 }
 
-// Takes out the latest entry of a name and an id.
-fn remove(context: &mut Context, name: u16, id: u16) -> Turn
-    requires { IsHeld context.old × IsNamed context.old name }
+// Takes out the latest entry of an identifier.
+fn remove(context: &mut Context, identifier: Identifier) -> Turn
+    requires { IsHeld context.old × IsNamed context.old identifier.«name» }
     ensures { IsHeld context.new }
 {
-    let removed = context.remove(name, id);
+    let removed = context.remove(identifier);
     Turn::new(context, Ok(removed))
 }
 
@@ -155,24 +160,24 @@ fn visible(context: &Context, before: usize) -> Turn
 
 // The turn that a question asks for, with the entry, name or identifier that it is about.
 fn ask(context: &mut Context, before: usize, question: Question, entry: Entry) -> Turn
-    requires { IsHeld context.old × IsNamed context.old entry.«name» }
+    requires { IsHeld context.old × IsNamed context.old entry.identifier.«name» }
     ensures { IsHeld context.new }
 {
     match question {
         Question::Insert => insert(context, entry),
-        Question::RemoveByName => remove_by_name(context, entry.name),
-        Question::Remove => remove(context, entry.name, entry.id),
+        Question::RemoveByName => remove_by_name(context, entry.identifier.name),
+        Question::Remove => remove(context, entry.identifier),
         Question::FirstVisible => {
             let len = context.len;
             visible(context, len)
         }
         Question::NextVisible => visible(context, before),
         Question::Get => {
-            let found = context.get(entry.name, entry.id);
+            let found = context.get(entry.identifier);
             Turn::new(context, Ok(found_entry(context, found)))
         }
         Question::GetByName => {
-            let found = context.get_by_name(entry.name);
+            let found = context.get_by_name(entry.identifier.name);
             Turn::new(context, Ok(found_entry(context, found)))
         }
     }
@@ -186,7 +191,7 @@ fn ask_next(rest: &mut &[u8], context: &mut Context, before: usize) -> Turn
     let question = Question::from(read_u16(rest));
     let entry = read_entry(rest);
     let Marked { pairs, bytes } = context.names;
-    if is_name(pairs, bytes, usize::from(entry.name)) {
+    if is_name(pairs, bytes, usize::from(entry.identifier.name)) {
         return ask(context, before, question, entry);
     }
     Turn::new(context, Ok(None))
