@@ -14,7 +14,7 @@ use number::Marked;
 use search::highest;
 
 // A name, by its number, and an id.
-#[derive(Debug, Clone, Copy, PartialEq, Eq)]
+#[derive(Debug, Clone, Copy, Default, PartialEq, Eq)]
 pub struct Identifier {
     pub name: u16,
     pub unique_id: u16,
@@ -22,7 +22,7 @@ pub struct Identifier {
 
 // An identifier and its type: kind 0 and a proposition's number, or kind 1 and the number of a datatype's name.
 // `kind` stays a number: an insertion stores every number, and a narrower type would ask more of who inserts.
-#[derive(Debug, Clone, Copy, PartialEq, Eq)]
+#[derive(Debug, Clone, Copy, Default, PartialEq, Eq)]
 pub struct Entry {
     pub identifier: Identifier,
     pub kind: u16,

@@ -6,6 +6,7 @@ ghost use Rattle.std.specs.Prelude.{◌≡◌, Bool, ◌≤◌};
 ghost use Rattle.number.specs.Pairs.{NameWithin};
 ghost use Rattle.identifier_context.specs.Lent.{IsNamed, IsHeld};
 
+use definitions::Refusal;
 use identifier_context::{Context, Entry, Identifier};
 use input::{read_array, read_u16};
 use number::{Marked, PAIR_SIZE, pair_length, pair_offset};
@@ -52,8 +53,8 @@ const TEXT_BYTES: usize = 64;
 // The questions on a context.
 const QUESTIONS: usize = 40;
 
-// The entry that a question finds or takes out, if any, or a refusal's number.
-type Answer = Result<Option<Entry>, u16>;
+// The entry that a question finds or takes out, if any, or a refusal.
+type Answer = Result<Option<Entry>, Refusal>;
 
 // What came of a question: the index before which the next visible entry is sought, and the answer.
 #[derive(Drop)]
@@ -83,22 +84,12 @@ fn read_entry(rest: &mut &[u8]) -> Entry {
     }
 }
 
-// The entry of an answer without one.
-const NO_ENTRY: Entry = Entry {
-    identifier: Identifier {
-        name: 0,
-        unique_id: 0,
-    },
-    kind: 0,
-    number: 0,
-};
-
-// An answer as the list has it: 0 for no entry, 1 for one, or a refusal's number; and the entry.
+// An answer as the list has it: 0 for no entry, 1 for one, or a refusal's number; and the entry, or zeros.
 fn listed(answer: Answer) -> (u16, Entry) {
     match answer {
-        Ok(None) => (0, NO_ENTRY),
+        Ok(None) => (0, Entry::default()),
         Ok(Some(entry)) => (1, entry),
-        Err(number) => (number, NO_ENTRY),
+        Err(refusal) => (u16::from(refusal.number), Entry::default()),
     }
 }
 
@@ -123,10 +114,7 @@ fn insert(context: &mut Context, entry: Entry) -> Turn
     ensures { IsHeld context.new }
 {
     let inserted = context.insert(entry);
-    let answer = inserted
-        .map(|()| None)
-        .map_err(|refusal| u16::from(refusal.number));
-    Turn::new(context, answer)
+    Turn::new(context, inserted.map(|()| None))
 }
 
 // Takes out the latest entry of a name.
@@ -230,7 +218,7 @@ fn ask_all(rest: &mut &[u8]) -> usize
 {
     let pairs = read_array::<PAIR_BYTES>(rest);
     let text = read_array::<TEXT_BYTES>(rest);
-    let mut memory = [NO_ENTRY; ROOM];
+    let mut memory = [Entry::default(); ROOM];
     let lent = (usize::from(read_u16(rest)) / ENTRY_NUMBERS).min(ROOM);
     let names = Marked {
         pairs: &pairs,
