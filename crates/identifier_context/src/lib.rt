@@ -145,6 +145,7 @@ impl Context<'_> {
     }
 
     // The index of the latest visible entry before one: from the count on, this hands out what the Rust's get_all_visible collects.
+    // The caller keeps the index, and may insert and remove between two calls, where an `Iterator` would borrow the context all along.
     pub fn next_visible(&self, before: usize) -> Option<usize>
         requires { IsHeld self.now }
         ensures { Shows (name_in self.now) self.now.entries.now self.now.«len» before result }
