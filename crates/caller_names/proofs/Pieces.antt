@@ -1,42 +1,43 @@
--- A caller's names are the pieces that std cuts off at newlines, and a name is listed where it is any of them.
-use Prim.Native.Nat.{ℕ}
-use mathlib.Core.Path.{◌≡◌, refl, ◌∙◌, ap}
-use mathlib.Core.Bool.{Bool, true, false, cond, ◌||◌}
+-- A caller's names are the pieces between newlines, and a name is listed where it is any of them.
+use Prim.Native.Nat.{ℕ, zero, suc, ◌+◌, ◌<◌}
+use mathlib.Core.Path.{◌≡◌, refl, ap}
+use mathlib.Core.Bool.{true, false, ◌||◌}
 use mathlib.Core.List.{List, [], ◌∷◌}
 use native.Mathlib.Omega.{arith}
-use lib.ListN.{length, drop}
+use lib.ListN.{length, get_or, take, drop}
 use lib.Dec.{eqb}
-use Rattle.std.specs.List.{list_any, slice_split, onto_first}
+use Rattle.std.specs.List.{list_any}
 use Rattle.definitions.specs.Name.{Name, eq_name}
 use Rattle.definitions.specs.Text.{occurs}
 use Rattle.definitions.specs.CallerNames.{newline, in_front, pieces, names_in}
 
-pub names_pieces : (text : List ℕ) → (length text ≡ 0 → ⊥) → names_in text ≡ pieces (drop 0 text)
+pub names_pieces : (text : List ℕ) → (length text ≡ 0 → ⊥) → pieces text ≡ names_in text
 unfolding names_in
 names_pieces [] h = absurd (h refl)
 names_pieces (b ∷ s) h = refl
 
-pub no_names : (text : List ℕ) → length text ≡ 0 → names_in text ≡ []
+pub no_names : (text : List ℕ) → length text ≡ 0 → [] ≡ names_in text
 unfolding names_in
 no_names [] h = refl
 no_names (b ∷ s) h = absurd (omega arith)
 
--- the pieces are what std cuts off at newlines
-pub pieces_split : (s : List ℕ) → pieces s ≡ slice_split (λ b. eqb b 10) s
+-- the first newline ends the first piece
+pub first_piece : (s : List ℕ) (i d : ℕ) → i < length s → ((k : ℕ) → k < i → eqb (get_or s k d) 10 ≡ false) → eqb (get_or s i d) 10 ≡ true
+    → pieces s ≡ take i s ∷ pieces (drop (i + 1) s)
 unfolding pieces newline in_front
-pieces_split [] = refl
-pieces_split (b ∷ s) = ap (λ ps. cond (eqb b 10) ([] ∷ ps) (in_front b ps)) (pieces_split s) ∙ by_byte (eqb b 10) (slice_split (λ c. eqb c 10) s)
-  where
-    by_byte : (t : Bool) (ps : List Name) → cond t ([] ∷ ps) (in_front b ps) ≡ cond t ([] ∷ ps) (onto_first b ps)
-    by_byte true ps = refl
-    by_byte false [] = refl
-    by_byte false (a ∷ ps) = refl
+first_piece [] i d h others here = absurd (omega arith)
+first_piece (b ∷ s) zero d h others here = rw here refl
+first_piece (b ∷ s) (suc i) d h others here =
+    let later : suc i + 1 ≡ suc (i + 1) = omega arith in
+    rw (others 0 (omega arith), first_piece s i d (omega arith) (λ k l. others (suc k) (omega arith)) here, later) refl
 
-any_of : (x : Name) (names : List Name) → occurs eq_name x names ≡ list_any (λ piece. eq_name x piece) names
+-- and without a newline there is one piece
+pub only_piece : (s : List ℕ) (d : ℕ) → ((k : ℕ) → k < length s → eqb (get_or s k d) 10 ≡ false) → pieces s ≡ s ∷ []
+unfolding pieces newline in_front
+only_piece [] d others = refl
+only_piece (b ∷ s) d others = rw (others 0 (omega arith), only_piece s d (λ k l. others (suc k) (omega arith))) refl
+
+pub any_of : (x : Name) (names : List Name) → list_any (λ piece. eq_name x piece) names ≡ occurs eq_name x names
 unfolding occurs
 any_of x [] = refl
 any_of x (a ∷ rest) = ap (λ t. eq_name x a || t) (any_of x rest)
-
--- a name is in a list where it is any of the pieces
-pub occurs_split : (x : Name) (list : List ℕ) → (length list ≡ 0 → ⊥) → occurs eq_name x (names_in list) ≡ list_any (λ piece. eq_name x piece) (slice_split (λ b. eqb b 10) list)
-occurs_split x list h = rw (names_pieces list h, ← (pieces_split list)) (any_of x (pieces list))

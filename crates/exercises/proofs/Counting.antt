@@ -11,13 +11,10 @@ use native.Mathlib.Decide.{dec_lt}
 use mathlib.Core.Logic.{by_cases}
 use mathlib.Core.List.{map, append-nil}
 use denote.Ref.{Bor}
-use lib.Dec.{eqb}
 use Rattle.std.proofs.lemmas.Iterator.{YieldsList}
 use Rattle.std.specs.Iterator.{AlwaysYields, Yields}
-use Rattle.std.specs.List.{slice_split}
 use Rattle.std.specs.Prelude.{Option}
 use Rattle.definitions.specs.CallerNames.{names_in}
-use Rattle.caller_names.proofs.Pieces.{names_pieces, no_names, pieces_split}
 use borrow.Author.Tests.{lt-ltb, le-ltb, ltb-false}
 use Rattle.std.specs.List.{list_any}
 use Rattle.std.specs.Prelude.{None, Some}
@@ -152,14 +149,6 @@ module _ {S A B : Type 0} (steps : S → Option A → S → Type 0) (v : A → B
 
     pub all_given : steps t None u → all ≡ map v xs
     all_given z = let (left, is, later) = fronts xs all s t split.runs given in is ∙ over (map v xs) left t u later z
-
--- the names of a text are the pieces that std cuts off at newlines
-pub names_split : (text : List ℕ) → (length text ≡ 0 → ⊥) → names_in text ≡ slice_split (λ b. eqb b 10) text
-names_split text some = names_pieces text some ∙ pieces_split text
-
-pub none : (text : List ℕ) → length text ≡ 0 → Some 0 ≡ count_of (names_in text)
-unfolding count_of bad_names exercise_name_limit all_well_formed repeated
-none text h = rw (no_names text h) refl
 
 -- a front that may not be asked about
 pub refused : (text : List ℕ) (names rest : List Name) → names_in text ≡ names ++ rest → bad_names names ≡ true → None ≡ count_of (names_in text)

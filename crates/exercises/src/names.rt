@@ -4,7 +4,7 @@ ghost use Rattle.definitions.specs.CallerNames.{names_in};
 ghost use Rattle.definitions.specs.Exercises.{bad_names};
 ghost use Rattle.exercises.specs.Names.{names_of, with_name, count_of};
 
-use caller_names::well_formed;
+use caller_names::{names_in, well_formed};
 use identifier::same_name;
 
 // At most so many names.
@@ -27,12 +27,9 @@ fn may_follow(earlier: &[&[u8]], name: &[u8]) -> bool
 pub fn count_names(text: &[u8]) -> Option<usize>
     ensures { result ≡ count_of (names_in text.now) }
 {
-    if text.is_empty() {
-        return Some(0);
-    }
     let mut names = [text; NAME_LIMIT];
     let mut count = 0;
-    for name in text.split(|b| *b == b'\n') {
+    for name in names_in(text) {
         if !may_follow(&names[..count], name) {
             return None;
         }

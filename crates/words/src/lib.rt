@@ -13,7 +13,7 @@ ghost use Rattle.words.specs.Places.{between, WordEnds, NameEnds, Expected};
 ghost use Rattle.words.specs.Starts.{as_start};
 ghost use Rattle.words.specs.Table.{Table, NoNames, NamePlace, TooMany, NumberOf, PairFits, searched, with_number, with_pair};
 
-use caller_names::{is_listed, well_formed};
+use caller_names::{is_listed, names_in, well_formed};
 use identifier::{Class, same_name};
 use name_index::{FREE, SLOT_COUNT, Slot, probe_by};
 use number::{Marked, PAIR_SIZE};
@@ -48,10 +48,7 @@ pub fn is_admitted(name: &[u8]) -> bool
 pub fn all_admitted(list: &[u8]) -> bool
     ensures { result ≡ all_admitted (names_in list.now) }
 {
-    if list.is_empty() {
-        return true;
-    }
-    list.split(|b| *b == b'\n').all(|name| is_admitted(name))
+    names_in(list).all(|name| is_admitted(name))
 }
 
 // Where the name at `at` ends.

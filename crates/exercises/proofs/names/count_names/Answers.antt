@@ -1,25 +1,21 @@
--- The text is cut at its newlines, and each piece is judged behind those before it.
+-- Each name is judged behind those before it.
 use mathlib.Core.Path.{◌≡◌, refl, ap, ◌∙◌}
 use mathlib.Core.Bool.{false}
 use mathlib.Core.List.{[], ◌∷◌, ◌++◌}
 use Prim.Native.Nat.{◌<◌}
 use native.Mathlib.Omega.{arith}
 use native.Mathlib.Numerals.{add-one}
-use lib.Dec.{eqb}
 use lib.ListN.{length, length-append}
 use borrow.Author.Rules.{rules}
-use borrow.Author.Tests.{tests}
 use Rattle.std.proofs.Math.Seq.{take-suc-set}
-use Rattle.std.proofs.lemmas.Iterator.Splits.{YieldsList-from_slice_split}
+use Rattle.std.proofs.lemmas.Iterator.Consumers.{YieldsList-from_first}
+use Rattle.caller_names.specs.Left.{names_left}
 use Rattle.definitions.specs.CallerNames.{all_well_formed}
 use Rattle.definitions.specs.Exercises.{repeated, exercise_name_limit, bad_names}
-use Rattle.exercises.proofs.Counting.{next_given, all_given, names_split, none, refused, counted, verdict, room, names_more}
+use Rattle.exercises.proofs.Counting.{next_given, all_given, refused, counted, verdict, room, names_more}
 use Rattle.exercises.specs.Names.{names_of, with_name}
 use Rattle.exercises.proofs.names.count_names.Goals as goal
 use Rattle.exercises.proofs.names.count_names.Goals.{Else-not-may_follow}
-
-pub returns-then-is_empty : goal.returns-then-is_empty
-returns-then-is_empty c = none _ (search rules)
 
 pub loop-name-init : goal.loop-name-init
 unfolding bad_names exercise_name_limit all_well_formed repeated
@@ -28,9 +24,9 @@ loop-name-init c = record { all = refl; kept = refl; good = refl; few = omega ar
 pub returns-then-not-may_follow : goal.returns-then-not-may_follow
 returns-then-not-may_follow c =
     let l = c.loop-name in
-    let split = YieldsList-from_slice_split _ (λ b. eqb b 10) c.args.text.now (search rules) (search rules) (search rules) (λ x b q k. search (rules, tests)) in
+    let split = YieldsList-from_first (λ name. name.now) names_left _ (search rules) in
     let (rest, is) = next_given _ _ _ _ _ _ c.next.new.self split l.yielded_by c.in-Some.name c.in-Some.ensures.steps in
-    refused c.args.text.now _ rest (names_split _ (search rules) ∙ is)
+    refused c.args.text.now _ rest is
     (rw c.if-not-may_follow.true at (verdict _ _ _ _ l.invariant.kept l.invariant.good c.may_follow.ensures))
 
 -- the verdict on the piece, where it may follow
@@ -57,5 +53,5 @@ loop-name-preserved c =
 pub returns : goal.returns
 returns c =
     let l = c.loop-name in
-    let split = YieldsList-from_slice_split _ (λ b. eqb b 10) c.args.text.now (search rules) (search rules) (search rules) (λ x b q k. search (rules, tests)) in
-    counted c.args.text.now l.yielded l.count (names_split _ (search rules) ∙ all_given _ _ _ _ _ _ c.next.new.self split l.yielded_by c.in-None.ensures.steps) l.invariant.good l.invariant.all
+    let split = YieldsList-from_first (λ name. name.now) names_left _ (search rules) in
+    counted c.args.text.now l.yielded l.count (all_given _ _ _ _ _ _ c.next.new.self split l.yielded_by c.in-None.ensures.steps) l.invariant.good l.invariant.all
