@@ -39,11 +39,11 @@ use Rattle.term_stack.specs.Forms.{least_form}
 use Rattle.term_stack.specs.Growing.{node_row, Unmade, MadeOf}
 use Rattle.term_stack.specs.Numbers.{labels_met, code_met, root_after, records_after, stack_records, term_records}
 use Rattle.term_stack.specs.Standing.{Scene, StateOf, AtTerm, AtState, left_at, left_of}
-use Rattle.term_stack.specs.Using.{Comes, Refuses, Turned}
+use Rattle.term_stack.specs.Using.{Comes, Refuses, Turned, Grows}
 use Rattle.term_stack.proofs.Marked.{even_labels}
 use Rattle.term_stack.proofs.Coming.{comes_as, goes_on, reads_on, as_due, not_due, unfit}
 use Rattle.term_stack.proofs.LabelNumbers.{label_kind_is, label_number_is}
-use Rattle.term_stack.proofs.Grown.{due_at, Grows, grown_not, grown_to, over}
+use Rattle.term_stack.proofs.Grown.{due_at, grown_not, grown_to, over}
 use Rattle.term_stack.proofs.Used.{hand_small}
 use Rattle.term_openings.proofs.Noting.{noting, stored_met}
 use Rattle.term_openings.proofs.StoredLabels.{label_limited, label_to, label_is, label_stored, label_unfit}

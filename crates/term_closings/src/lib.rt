@@ -21,7 +21,7 @@ use prop_reader::read_label;
 use term_openings::closed_for;
 use term_stack::{
     Entry, Hand, NO_ASCRIPTION, NO_FUNCTION, Part, Progress, Purpose, State, Work, close_case,
-    close_function, close_let, due, enter, make, over, use_for, waiting,
+    close_function, close_let, due, enter, make, over, over_part, use_for, waiting,
 };
 use words::{NameTable, argument_follows, expect};
 
@@ -67,12 +67,7 @@ fn give_second(
         first: first.root,
         second: waiting(s, hand).root,
     };
-    let pair = over(
-        Form::Closed,
-        usize::from(first.nest),
-        usize::from(first.tally),
-        hand,
-    );
+    let pair = over_part(Form::Closed, first, hand);
     let made = make(work, behind, node, pair)?;
     use_for(work, made, pair, p)
 }

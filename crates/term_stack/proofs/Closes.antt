@@ -29,11 +29,11 @@ use Rattle.term_stack.specs.Forms.{least_form}
 use Rattle.term_stack.specs.Growing.{node_row}
 use Rattle.term_stack.specs.Numbers.{code_met, part_after, root_after, records_after, entry_after, entry_records, numbered_parameter, stack_records, term_records}
 use Rattle.term_stack.specs.Standing.{Scene, Extends}
-use Rattle.term_stack.specs.Using.{GivesTo, Gives}
+use Rattle.term_stack.specs.Using.{GivesTo, Gives, Grows, Builds}
 use Rattle.term_stack.proofs.Alike.{StandsFor, for_function, for_branches, for_let_body, entry_for}
 use Rattle.term_stack.proofs.LabelNumbers.{parameter_kind_is, parameter_number_is, labelled_is}
 use Rattle.term_stack.proofs.Marked.{extends_itself}
-use Rattle.term_stack.proofs.Grown.{Grows, over, Builds}
+use Rattle.term_stack.proofs.Grown.{over}
 use Rattle.term_stack.proofs.Used.{hand_small}
 
 module _ {z : Scene} {work : Work} {s : Progress} {h : Hand} {e : stacked.Entry} where

@@ -5,31 +5,29 @@ use mathlib.Core.Bool.{Bool, true, false}
 use Rattle.std.specs.Prelude.{Some}
 use mathlib.Core.List.{List, [], ◌∷◌, ◌++◌}
 use native.Mathlib.Omega.{arith}
-use lib.ListN.{length, drop}
+use lib.ListN.{drop}
 use lib.Dec.{leb}
 use Rattle.definitions.specs.declared.Style.TheVariants.{Strict}
 use Rattle.definitions.specs.Name.{Name}
-use Rattle.definitions.specs.Term.{ProofTerm, annotation_count}
+use Rattle.definitions.specs.Term.{ProofTerm}
 use Rattle.definitions.specs.Display.{form, Position, wraps}
 use Rattle.definitions.specs.TermText.{node_limit, term_nesting, term_nesting_limit}
 use Rattle.definitions.specs.TermReader.{Shown, standing, same}
-use Rattle.reading_laws.specs.TermMachine.{Entry, holding, if_due}
-use Rattle.reading_laws.specs.Marks.{Mark, node, marks, entries_marks, met, nodes_met}
+use Rattle.reading_laws.specs.TermMachine.{Entry, holding}
+use Rattle.reading_laws.specs.Marks.{node, marks, entries_marks, met, nodes_met}
 use Rattle.reading_laws.proofs.Entries.{hand_nesting}
 use Rattle.reading_laws.proofs.OnTheWay.{Fits, nodes_both, nodes_met_lem}
 use Rattle.reading_laws.proofs.Turns.{Next}
-use Rattle.words.specs.Table.{table_names}
 use Rattle.term_stack.specs.declared.Progress.{Progress}
 use Rattle.proof_term.specs.declared.forms.Form.{Form}
 use Rattle.term_stack.specs.declared.Hand.{Hand}
 use Rattle.term_stack.specs.declared.State.TheVariants.{Holding}
 use Rattle.term_stack.specs.declared.Work.{Work}
-use Rattle.proof_term.specs.Forms.{as_form, rank}
+use Rattle.proof_term.specs.Forms.{rank}
 use Rattle.term_stack.specs.Forms.{least_form}
 use Rattle.term_stack.specs.Growing.{Unmade, nodes, nesting, MadeOf}
-use Rattle.term_stack.specs.Numbers.{stack_of, term_records}
-use Rattle.term_stack.specs.Standing.{Scene, Extends, Stored, HandOf, Placed, StateOf, AtTerm, AtState, left_of, left_at}
-use Rattle.term_stack.specs.Using.{Comes, Refuses, Turned, left_after}
+use Rattle.term_stack.specs.Standing.{Scene, HandOf, StateOf, AtTerm, AtState, left_of, left_at}
+use Rattle.term_stack.specs.Using.{Comes, Refuses, Turned, Grows, Builds, left_after}
 use Rattle.term_stack.proofs.FormNumbers.{due_is}
 use Rattle.term_stack.proofs.Marked.{few_labels}
 use Rattle.term_stack.proofs.Stores.{stored_record, stored_as}
@@ -39,23 +37,6 @@ use Rattle.term_stack.proofs.Coming.{arrives, as_due, not_due, unfit}
 pub due_at : (p : Position) {a : Shown (ProofTerm Name)} {h : Hand} → HandOf a h → {b : Bool} → same h.own (leb (least_form p) (rank h.form)) ≡ b
     → same a.own (wraps Strict p a.shown) ≡ b
 due_at p {a} of e = rw (due_is p a.shown) (rw (of.form_is, of.own) at e)
-
--- the record of t, of these numbers, is to be made after entries k
-pub record Grows (k : List Entry) (t : ProofTerm Name) (z : Scene) (work : Work) (s : Progress) (row : List ℕ) (h : Hand) : Type 0 where
-  pub placed : Placed z s
-  pub deep : s.depth ≡ length k
-  pub met : List Mark
-  pub records : (Name → ℕ) → List ℕ
-  pub stored : Stored met records (λ number. stack_of number k) z work s.used s.depth s.to
-  pub marks_are : met ++ (node ∷ []) ≡ entries_marks k ++ marks t
-  pub last : (Name → ℕ) → List ℕ
-  pub row_is : (number : Name → ℕ) → Extends number (table_names z.names z.text) → row ≡ last number
-  pub long : length row ≡ 7
-  pub records_are : (number : Name → ℕ) → records number ++ last number ≡ term_records number k t
-  pub form_is : h.form ≡ as_form (form t)
-  pub bare : h.own ≡ false
-  pub nest_is : h.nest ≡ term_nesting t
-  pub tally_is : h.tally ≡ annotation_count t
 
 module _ {k : List Entry} {t : ProofTerm Name} {z : Scene} {work : Work} {s : Progress} {row : List ℕ} {h : Hand} (g : Grows k t z work s row h) where
   -- it has few labels, since it has few nodes
@@ -117,18 +98,6 @@ module _ {k : List Entry} {t : ProofTerm Name} {z : Scene} {work : Work} {s : Pr
 -- a term of this form over the term in hand, which nests so deep and has so many labels with what was read before
 abbrev pub over : Form → ℕ → ℕ → Hand → Hand
 over form nest tally h = record { form = form; own = false; nest = max nest h.nest + 1; tally = tally + h.tally }
-
--- the record of a term is to be made over the term in hand, which is bracketed from this form on: the record has these numbers, and the
--- term is held then as `whole`
-pub record Builds (least : Form) (z : Scene) (work : Work) (s : Progress) (h : Hand) (row : List ℕ) (whole : Hand) : Type 0 where
-  pub position : Position
-  pub least_is : least_form position ≡ rank least
-  pub below : List Entry
-  pub part : Shown (ProofTerm Name)
-  pub term : ProofTerm Name
-  pub hand : HandOf part h
-  pub comes : Comes z.types z.text (if_due part.own (wraps Strict position part.shown) (Some (holding below (standing false term) (drop s.at z.text))))
-  pub grows : Grows below term z work s row whole
 
 module _ {least : Form} {z : Scene} {work : Work} {s : Progress} {h : Hand} {row : List ℕ} {whole : Hand} (b : Builds least z work s h row whole) where
   asked : {t : Bool} → same h.own (leb (rank least) (rank h.form)) ≡ t → same b.part.own (wraps Strict b.position b.part.shown) ≡ t

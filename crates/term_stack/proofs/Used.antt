@@ -30,12 +30,12 @@ use Rattle.term_stack.specs.Forms.{least_form}
 use Rattle.term_stack.specs.Growing.{named_node, node_row}
 use Rattle.term_stack.specs.Numbers.{part_after, purpose_after, root_after, records_after, purpose_records, stack_records, term_records}
 use Rattle.term_stack.specs.Standing.{Scene, HandOf, AtState, left_at, left_of}
-use Rattle.term_stack.specs.Using.{Turned, UsedFor, Using, left_after}
+use Rattle.term_stack.specs.Using.{Turned, UsedFor, Using, Grows, Builds, left_after}
 use Rattle.term_stack.proofs.Alike.{ReadFor, for_head, for_argument, for_body, purpose_for}
 use Rattle.term_stack.proofs.Marked.{few_labels}
 use Rattle.term_stack.proofs.Stores.{stored_as}
 use Rattle.term_stack.proofs.Coming.{arrives}
-use Rattle.term_stack.proofs.Grown.{Grows, over, Builds}
+use Rattle.term_stack.proofs.Grown.{over}
 
 -- the term in hand is small
 pub hand_small : (ms : List Mark) (a : Shown (ProofTerm Name)) (s : Progress) (h : Hand) → HandOf a h → s.used ≤ 2048 → s.used ≡ nodes_met (ms ++ marks a.shown)

@@ -1,16 +1,20 @@
 -- A turn of the machine: what is known within it, and where it ends.
-use Rattle.std.specs.Prelude.{ℕ, ◌<◌, ◌≡◌, false, List, [], ◌∷◌, ◌++◌, length, drop, Option}
+use Rattle.std.specs.Prelude.{ℕ, ◌<◌, ◌≡◌, false, List, [], ◌∷◌, ◌++◌, length, drop, Option, Some}
 use Rattle.definitions.specs.Outcome.{refuse}
 use Rattle.definitions.specs.Name.{Name}
 use Rattle.definitions.specs.Term.{ProofTerm, annotation_count}
 use Rattle.definitions.specs.TermText.{term_nesting}
 use Rattle.definitions.specs.TermReader.{Shown, standing, read_answer}
-use Rattle.definitions.specs.Display.{closed, form}
-use Rattle.reading_laws.specs.TermMachine.{Purpose, Entry, State, onward, turn, used, give}
+use Rattle.definitions.specs.declared.Style.TheVariants.{Strict}
+use Rattle.definitions.specs.Display.{closed, form, Position, wraps}
+use Rattle.reading_laws.specs.TermMachine.{Purpose, Entry, State, onward, turn, used, give, holding, if_due}
 use Rattle.reading_laws.specs.Marks.{Mark, node, marks, purpose_marks, entry_marks, entries_marks}
 use Rattle.reading_laws.proofs.OnTheWay.{Reached}
 use Rattle.words.specs.Table.{table_names}
 use Rattle.proof_term.specs.declared.nodes.Node.{Node}
+use Rattle.proof_term.specs.declared.forms.Form.{Form}
+use Rattle.proof_term.specs.Forms.{as_form, rank}
+use Rattle.term_stack.specs.Forms.{least_form}
 use Rattle.term_stack.specs.declared.Progress.{Progress}
 use Rattle.term_stack.specs.declared.Hand.{Hand}
 use Rattle.term_stack.specs.declared.Purpose as reader
@@ -18,7 +22,7 @@ use Rattle.term_stack.specs.declared.Entry as entries
 use Rattle.term_stack.specs.declared.State as reader_state
 use Rattle.term_stack.specs.declared.Work.{Work}
 use Rattle.term_stack.specs.Growing.{node_row}
-use Rattle.term_stack.specs.Numbers.{purpose_after, records_after, entry_after, entry_records, purpose_records, stack_of, stack_records}
+use Rattle.term_stack.specs.Numbers.{purpose_after, records_after, entry_after, entry_records, purpose_records, stack_of, stack_records, term_records}
 use Rattle.term_stack.specs.Standing.{Scene, Extends, Stored, HandOf, Placed, AtState, left_at, left_of}
 
 -- the machine turns to this, or fails where it is nothing
@@ -95,3 +99,32 @@ pub record Gives (z : Scene) (work : Work) (s : Progress) (h : Hand) (e : entrie
   pub entry : Entry
   pub term : Shown (ProofTerm Name)
   pub to : GivesTo below entry term z work s h e
+
+-- the record of t, of these numbers, is to be made after entries k
+pub record Grows (k : List Entry) (t : ProofTerm Name) (z : Scene) (work : Work) (s : Progress) (row : List ℕ) (h : Hand) : Type 0 where
+  pub placed : Placed z s
+  pub deep : s.depth ≡ length k
+  pub met : List Mark
+  pub records : (Name → ℕ) → List ℕ
+  pub stored : Stored met records (λ number. stack_of number k) z work s.used s.depth s.to
+  pub marks_are : met ++ (node ∷ []) ≡ entries_marks k ++ marks t
+  pub last : (Name → ℕ) → List ℕ
+  pub row_is : (number : Name → ℕ) → Extends number (table_names z.names z.text) → row ≡ last number
+  pub long : length row ≡ 7
+  pub records_are : (number : Name → ℕ) → records number ++ last number ≡ term_records number k t
+  pub form_is : h.form ≡ as_form (form t)
+  pub bare : h.own ≡ false
+  pub nest_is : h.nest ≡ term_nesting t
+  pub tally_is : h.tally ≡ annotation_count t
+
+-- the record of a term is to be made over the term in hand, which is bracketed from this form on: the record has these numbers, and the
+-- term is held then as `whole`
+pub record Builds (least : Form) (z : Scene) (work : Work) (s : Progress) (h : Hand) (row : List ℕ) (whole : Hand) : Type 0 where
+  pub position : Position
+  pub least_is : least_form position ≡ rank least
+  pub below : List Entry
+  pub part : Shown (ProofTerm Name)
+  pub term : ProofTerm Name
+  pub hand : HandOf part h
+  pub comes : Comes z.types z.text (if_due part.own (wraps Strict position part.shown) (Some (holding below (standing false term) (drop s.at z.text))))
+  pub grows : Grows below term z work s row whole

@@ -7,7 +7,7 @@ ghost use Rattle.definitions.specs.TermReader.{same};
 ghost use Rattle.proof_term.specs.Forms.{rank};
 ghost use Rattle.term_stack.specs.Growing.{named_node, node_row, Unmade, MadeOf, Entered};
 ghost use Rattle.term_stack.specs.Standing.{Scene, ThereIs, Roomy};
-ghost use Rattle.term_stack.specs.Using.{Using, Leaf, Gives, Refuses, Turned, left_after};
+ghost use Rattle.term_stack.specs.Using.{Builds, Using, Leaf, Gives, Refuses, Turned, left_after};
 
 use proof_term::{Form, Label, NODE_LIMIT, Node, RECORD_SIZE, push};
 use words::NamedFunction;
@@ -138,6 +138,14 @@ pub fn over(form: Form, nest: usize, tally: usize, hand: Hand) -> Hand
     }
 }
 
+// A term of this form over a part that waited and the term in hand.
+pub fn over_part(form: Form, part: Part, hand: Hand) -> Hand
+    requires { (hand.nest ≤ 512) × (hand.tally ≤ 4098) }
+    ensures { result ≡ record { form = form; own = false; nest = max part.nest hand.nest + 1; tally = part.tally + hand.tally } }
+{
+    over(form, usize::from(part.nest), usize::from(part.tally), hand)
+}
+
 // The memory is changed in place, and the progress is a value that each step hands on changed: so they are two parameters and no
 // struct.
 
@@ -182,6 +190,24 @@ fn named(function: NamedFunction, body: u16) -> Node
     }
 }
 
+// Makes the record of a term over the term in hand, which is bracketed where forms are from `least` on: the whole term is held then.
+fn build(
+    work: &mut Work,
+    s: Progress,
+    hand: Hand,
+    least: Form,
+    node: Node,
+    whole: Hand,
+) -> Option<State>
+    requires { ThereIs (λ (z : Scene). Builds least z work.old s hand (node_row node whole.tally) whole) }
+    ensures { (z : Scene) → Builds least z work.old s hand (node_row node whole.tally) whole →
+        MatchOption result (Refuses z) (Turned z work.new (left_after z s)) }
+{
+    due(hand, least)?;
+    let made = make(work, s, node, whole)?;
+    Some(State::Holding(made, whole))
+}
+
 // A closed term is in hand: makes of it what it was read for.
 pub fn use_for(work: &mut Work, s: Progress, hand: Hand, p: Purpose) -> Option<State>
     requires { ThereIs (λ (z : Scene). Using z work.old s hand p) }
@@ -191,26 +217,17 @@ pub fn use_for(work: &mut Work, s: Progress, hand: Hand, p: Purpose) -> Option<S
     match p {
         Purpose::Head => Some(State::Holding(s, hand)),
         Purpose::Argument(function) => {
-            due(hand, CLOSED_ONLY)?;
             let node = Node::Application {
                 function: function.root,
                 argument: waiting(s, hand).root,
             };
-            let whole = over(
-                Form::Call,
-                usize::from(function.nest),
-                usize::from(function.tally),
-                hand,
-            );
-            let made = make(work, s, node, whole)?;
-            Some(State::Holding(made, whole))
+            let whole = over_part(Form::Call, function, hand);
+            build(work, s, hand, CLOSED_ONLY, node, whole)
         }
         Purpose::Body(function) => {
-            due(hand, CLOSED_ONLY)?;
             let node = named(function, waiting(s, hand).root);
             let whole = over(Form::Call, 0, 0, hand);
-            let made = make(work, s, node, whole)?;
-            Some(State::Holding(made, whole))
+            build(work, s, hand, CLOSED_ONLY, node, whole)
         }
     }
 }
@@ -243,15 +260,13 @@ pub fn close_function(
     ensures { (z : Scene) → Gives z work.old s hand (Entry.FunctionBody name label)
         → MatchOption result (Refuses z) (Turned z work.new (left_after z s)) }
 {
-    due(hand, NO_ASCRIPTION)?;
     let node = Node::Function {
         parameter: name,
         label,
         body: waiting(s, hand).root,
     };
     let whole = over(Form::Function, 0, usize::from(label.is_some()), hand);
-    let made = make(work, s, node, whole)?;
-    Some(State::Holding(made, whole))
+    build(work, s, hand, NO_ASCRIPTION, node, whole)
 }
 
 // The second branch of a case is in hand, and with it the case of this head and first branch.
@@ -268,7 +283,6 @@ pub fn close_case(
     ensures { (z : Scene) → Gives z work.old s hand (Entry.CaseSecond head x left y)
         → MatchOption result (Refuses z) (Turned z work.new (left_after z s)) }
 {
-    due(hand, NO_ASCRIPTION)?;
     let nest = usize::from(head.nest.max(left.nest));
     let tally = usize::from(head.tally) + usize::from(left.tally);
     let whole = over(Form::Block, nest, tally, hand);
@@ -279,8 +293,7 @@ pub fn close_case(
         second: y,
         right: waiting(s, hand).root,
     };
-    let made = make(work, s, node, whole)?;
-    Some(State::Holding(made, whole))
+    build(work, s, hand, NO_ASCRIPTION, node, whole)
 }
 
 // The body of a let is in hand, and with it the let of this head.
@@ -296,19 +309,12 @@ pub fn close_let(
     ensures { (z : Scene) → Gives z work.old s hand (Entry.LetBody x y head)
         → MatchOption result (Refuses z) (Turned z work.new (left_after z s)) }
 {
-    due(hand, NO_ASCRIPTION)?;
-    let whole = over(
-        Form::Block,
-        usize::from(head.nest),
-        usize::from(head.tally),
-        hand,
-    );
+    let whole = over_part(Form::Block, head, hand);
     let node = Node::LetIn {
         first: x,
         second: y,
         head: head.root,
         body: waiting(s, hand).root,
     };
-    let made = make(work, s, node, whole)?;
-    Some(State::Holding(made, whole))
+    build(work, s, hand, NO_ASCRIPTION, node, whole)
 }

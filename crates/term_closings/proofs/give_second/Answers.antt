@@ -1,6 +1,4 @@
 -- The bracket closes, and the record of the pair is made over both parts.
-use native.Mathlib.Omega.{arith}
-use borrow.Author.Rules.{rules}
 use Rattle.term_stack.proofs.Closes.{given_small}
 use Rattle.term_openings.specs.Beginning.{with_text, TextBegins, TextEnds}
 use Rattle.term_openings.proofs.ClosedTerms.{ends_within}
@@ -16,38 +14,32 @@ unfolding TextEnds with_text
 returns-in_err-end c z g =
     rw c.from_residual.ensures (second_stuck c.if-hand.false g c.in_err-end.ensures)
 
-pub over-pair-requires : goal.over-pair-requires
+pub over_part-pair-requires : goal.over_part-pair-requires
 unfolding TextBegins with_text
-over-pair-requires c =
-    let small = given_small c.requires.holds in
-    (search rules, rw c.from-2.ensures (omega (arith, pair_few c.requires.holds)), small.2, small.3)
+over_part-pair-requires c = let small = given_small c.requires.holds in (small.2, small.3)
 
 pub make-requires : goal.make-requires
 unfolding TextBegins with_text
-make-requires c = rw (c.over-pair.ensures, c.from-2.ensures) (pair_few c.requires.holds)
+make-requires c = rw c.over_part-pair.ensures (pair_few c.requires.holds)
 
 pub returns-in_err-made : goal.returns-in_err-made
 unfolding TextEnds with_text
 returns-in_err-made c z g =
-    rw c.from_residual-in_err-made.ensures (pair_not c.if-hand.false c.in_ok-end.ensures g (rw (c.over-pair.ensures, c.from.ensures) at c.in_err-made.ensures))
+    rw c.from_residual-in_err-made.ensures (pair_not c.if-hand.false c.in_ok-end.ensures g (rw c.over_part-pair.ensures at c.in_err-made.ensures))
 
 pub use_for-requires : goal.use_for-requires
 unfolding TextBegins with_text
 use_for-requires c =
-    let made = rw (c.over-pair.ensures, c.waiting.ensures, c.from.ensures, c.from-2.ensures) at c.in_ok-made.ensures in
+    let made = rw (c.over_part-pair.ensures, c.waiting.ensures) at c.in_ok-made.ensures in
     record {
       value = with_text c.requires.value c.args.text.now;
-      holds =
-          rw (c.over-pair.ensures, c.from.ensures, c.from-2.ensures)
-          (pair_using c.if-hand.false c.in_ok-end.ensures c.requires.holds made);
+      holds = rw c.over_part-pair.ensures (pair_using c.if-hand.false c.in_ok-end.ensures c.requires.holds made);
     }
 
 pub returns : goal.returns
 unfolding TextEnds with_text
 returns c z g =
-    let made = rw (c.over-pair.ensures, c.waiting.ensures, c.from.ensures, c.from-2.ensures) at c.in_ok-made.ensures in
+    let made = rw (c.over_part-pair.ensures, c.waiting.ensures) at c.in_ok-made.ensures in
     let bare = c.if-hand.false in
     let found = c.in_ok-end.ensures in
-    ends_within _ _ _ _ _
-    (c.use_for.ensures _ (rw (c.over-pair.ensures, c.from.ensures, c.from-2.ensures) (pair_using bare found g made)))
-    (pair_left _ found made)
+    ends_within _ _ _ _ _ (c.use_for.ensures _ (rw c.over_part-pair.ensures (pair_using bare found g made))) (pair_left _ found made)
