@@ -15,6 +15,7 @@ use Rattle.definitions.specs.Sheet.{name_limit}
 use Rattle.definitions.specs.Term.{ProofTerm}
 use Rattle.definitions.specs.Display.{within, wraps}
 use Rattle.definitions.specs.TermReader.{Shown, same, name, expect}
+use Rattle.definitions.proofs.Readings.{given}
 use Rattle.reading_laws.specs.TermMachine.{Entry, case_first, case_second, State, reading, and_then, if_due, give}
 use Rattle.reading_laws.specs.Marks.{called, marks, entry_marks, entries_marks, met, names_met}
 use Rattle.reading_laws.proofs.MarksMet.{begins_all, begins_as}
@@ -22,10 +23,9 @@ use Rattle.reading_laws.proofs.OnTheWay.{Fits}
 use Rattle.reading_laws.proofs.TermConventions.{gives_yield, gives_none, gives_then}
 use Rattle.reading_laws.proofs.Turns.{Next, next_then}
 use Rattle.words.specs.declared.NameTable.{NameTable}
-use Rattle.words.specs.Places.{between, Expected}
+use Rattle.words.specs.Places.{Expected}
 use Rattle.words.specs.Table.{added, table_names}
 use Rattle.prop_parts.specs.declared.NameRead.{NameRead}
-use Rattle.prop_parts.specs.Found.{NameLacks, NameGiven}
 use Rattle.atom_reader.specs.Scope.{Crowded}
 use Rattle.atom_reader.proofs.Readings.{gives_from, gives_any}
 use Rattle.term_stack.specs.declared.Progress.{Progress}
@@ -47,46 +47,43 @@ use Rattle.term_stack.proofs.Coming.{comes_as, goes_on, as_due, not_due, unfit}
 use Rattle.term_stack.proofs.Grown.{due_at}
 use Rattle.term_stack.proofs.Opened.{Opens, opens}
 use Rattle.term_stack.proofs.Alike.{StandsFor, for_case, for_first}
+use Rattle.term_openings.specs.Beginning.{NameThere, NameLacksAfter}
 use Rattle.term_openings.proofs.Noting.{noting, stored_name, crowded_met, too_many_names}
 use Rattle.term_openings.proofs.ClosedTerms.{further, number_noted}
 use Rattle.term_closings.specs.Branching.{branch, BranchGiven, BranchLacks, branch_entry}
 use Rattle.term_closings.proofs.Tops.{waiting_is}
 use Rattle.term_closings.proofs.Enclosed.{placed_on}
 
--- The word, the name, the arrow.
-pub branch_no_word : (what text : List ℕ) (held : NameTable) (at : ℕ) → expect what (drop at text) ≡ None → BranchLacks what text at held
-unfolding branch ◌>>=◌ followed_by
-branch_no_word what text held at e = rw e (gives_none _)
+-- The word with the name behind it, and the arrow.
+pub branch_no_name : (what text : List ℕ) (held : NameTable) (at : ℕ) → NameLacksAfter what text at held → BranchLacks what text at held
+unfolding branch ◌>>=◌ followed_by added
+branch_no_name what text held at lacks =
+    gives_then _ _ (expect what (drop at text)) _
+    (gives_from (expect what (drop at text)) (λ u t. expect what (drop at text) ≡ given u t) (λ x e. e)) λ u t front.
+    gives_then _ _ (name t) _
+    (gives_from (name t) (λ x rest. Crowded (table_names held text) (x ∷ [])) (λ r e. lacks t r.value r.rest front e)) λ x rest crowded.
+    gives_then _ _ (expect (utf8 " => ") rest) _ (gives_any _) λ u v i.
+    gives_yield _ x v crowded
 
-module _ {what text : List ℕ} {at start : ℕ} (held : NameTable) (word : Expected what text at start) where
-  pub branch_no_name : NameLacks text start held → BranchLacks what text at held
-  unfolding branch ◌>>=◌ followed_by added
-  branch_no_name lacks =
-      rw word.reads
-      (gives_then _ _ (name (drop start text)) _
-      (gives_from (name (drop start text)) (λ x rest. Crowded (table_names held text) (x ∷ [])) lacks) λ x t crowded.
-      gives_then _ _ (expect (utf8 " => ") t) _ (gives_any _) λ u v i.
-      gives_yield _ x v crowded)
+module _ {what text : List ℕ} {at : ℕ} (held : NameTable) {after : NameTable} {n : NameRead} {x : Name} (there : NameThere what text at held after n x) where
+  pub branch_no_arrow : expect (utf8 " => ") (drop n.end text) ≡ None → BranchLacks what text at held
+  unfolding branch ◌>>=◌ followed_by
+  branch_no_arrow e = rw (there.expected, there.reads, e) (gives_none _)
 
-  module _ {after : NameTable} {n : NameRead} (named : NameGiven text start held after n) where
-    pub branch_no_arrow : expect (utf8 " => ") (drop n.end text) ≡ None → BranchLacks what text at held
-    unfolding branch ◌>>=◌ followed_by
-    branch_no_arrow e = rw (word.reads, named.reads, e) (gives_none _)
-
-    pub branch_read : {begin : ℕ} → Expected (utf8 " => ") text n.end begin
-        → (x : Name) × BranchGiven what text at held after (record { end = begin; number = n.number }) x
-    unfolding branch ◌>>=◌ followed_by yield
-    branch_read {begin} arrow = (
-      between start n.end text,
-      record {
-        within = arrow.within;
-        reads = rw (word.reads, named.reads, arrow.reads) refl;
-        noted = named.noted;
-        number_is = named.number_is;
-        from = omega (arith, word.after, named.from, arrow.after);
-        below = named.below;
-      },
-    )
+  pub branch_read : {begin : ℕ} → Expected (utf8 " => ") text n.end begin
+      → (x : Name) × BranchGiven what text at held after (record { end = begin; number = n.number }) x
+  unfolding branch ◌>>=◌ followed_by yield
+  branch_read {begin} arrow = (
+    x,
+    record {
+      within = arrow.within;
+      reads = rw (there.expected, there.reads, arrow.reads) refl;
+      noted = there.noted;
+      number_is = there.number_is;
+      from = omega (arith, there.from, arrow.after);
+      below = there.below;
+    },
+  )
 
 -- the number of a branch's name
 pub branch_small : {what text : List ℕ} {at : ℕ} {held after : NameTable} {r : NameRead} {x : Name}

@@ -16,9 +16,9 @@ ghost use Rattle.term_closings.specs.Branching.{BranchLacks, BranchGiven, branch
 ghost use Rattle.term_closings.specs.Giving.{AtEntry};
 
 use proof_term::{Form, Node};
-use prop_parts::{NameRead, read_name};
+use prop_parts::NameRead;
 use prop_reader::read_label;
-use term_openings::closed_for;
+use term_openings::{closed_for, name_after};
 use term_stack::{
     Entry, Hand, NO_ASCRIPTION, NO_FUNCTION, Part, Progress, Purpose, State, Work, close_case,
     close_function, close_let, due, enter, make, over, over_part, use_for, waiting,
@@ -91,8 +91,7 @@ fn read_branch(text: &[u8], at: usize, word: &[u8], names: &mut NameTable) -> Op
     ensures { MatchOption result (BranchLacks word.now text.now at names.old)
         (λ r. (x : Name) × BranchGiven word.now text.now at names.old names.new r x) }
 {
-    let start = expect(text, at, word)?;
-    let name = read_name(text, start, names)?;
+    let name = name_after(text, at, word, names)?;
     let end = expect(text, name.end, b" => ")?;
     Some(NameRead { end, ..name })
 }

@@ -110,7 +110,7 @@ fn call(
 }
 
 // The name after these bytes at `at`, with its number.
-fn name_after(text: &[u8], at: usize, what: &[u8], names: &mut NameTable) -> Option<NameRead>
+pub fn name_after(text: &[u8], at: usize, what: &[u8], names: &mut NameTable) -> Option<NameRead>
     requires { Table names.old text.now
         × (at ≤ length text.now) × (length text.now ≤ term_text_limit) }
     ensures { MatchOption result (NameLacksAfter what.now text.now at names.old)
