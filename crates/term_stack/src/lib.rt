@@ -146,8 +146,9 @@ pub fn over_part(form: Form, part: Part, hand: Hand) -> Hand
     over(form, usize::from(part.nest), usize::from(part.tally), hand)
 }
 
-// The memory is changed in place, and the progress is a value that each step hands on changed: so they are two parameters and no
-// struct.
+// Memory and progress are two parameters: each turn hands on a `State`, which has the progress in it, so a struct of both would be taken
+// apart and put together at each turn. Progress and the term in hand are two as well: `enter` takes the one, `due` and `over` the other,
+// and `make` the progress before a term with the term that is in hand behind it.
 
 // Makes the record of a node, whose term is in hand then, if no limit is passed.
 pub fn make(work: &mut Work, s: Progress, node: Node, hand: Hand) -> Option<Progress>
