@@ -1,13 +1,13 @@
 // The index of names: 1,024 slots, a name's number behind the taken slots from its start slot on, round the end.
 #![tactic(auto)]
 
-ghost use Rattle.std.specs.Prelude.{◌≡◌, ℕ, List, ◌+◌, ◌*◌, ◌%◌, ◌<◌, ◌≤◌, length, take, drop};
-ghost use Rattle.definitions.specs.Name.{Name};
+ghost use Rattle.std.specs.Prelude.{◌≡◌, ℕ, Bool, ◌+◌, ◌*◌, ◌%◌, ◌<◌, ◌≤◌, length, take, drop};
+ghost use Rattle.definitions.specs.Name.{Name, eq_name};
 ghost use Rattle.definitions.specs.Sheet.{name_limit};
 ghost use Rattle.definitions.specs.NameIndex as names;
-ghost use Rattle.definitions.specs.NameIndex.{wrap, start_slot, slot_count, free, index};
+ghost use Rattle.definitions.specs.NameIndex.{wrap, start_slot, slot_count, slot_at, free, index};
 ghost use Rattle.vocabulary.specs.Vocabulary.{name_in, Within};
-ghost use Rattle.name_index.specs.Probed.{seen, probed};
+ghost use Rattle.name_index.specs.Probed.{Taken, probed};
 
 use identifier::same_name;
 use number::{pair_length, pair_offset};
@@ -74,56 +74,46 @@ pub struct Index<'a> {
     pub ghost whole: { length slots.now ≡ slot_count },
 }
 
-// What a slot holds for a name that is looked for: no number, that of its equal, or another's.
-#[derive(Clone, Copy)]
-pub enum Slot {
-    Free,
-    Equal(usize),
-    Other,
-}
-
 // The number of a name's equal, or the slot that the name would enter. Slots that hold others' numbers are stepped over from its start
-// slot on, round the end. A closure says what a slot holds for the name.
-pub fn probe_by<F: Fn(usize) -> Slot>(name: &[u8], look: F) -> Result<usize, usize>
-    requires { (at : ℕ) → at < slot_count → F.pre look at }
-    ensures { (named : ℕ → Name) (slots : List ℕ) →
-        ((at : ℕ) (r : Slot) → at < slot_count → F.post look at r → r ≡ seen named slots name.now at) →
-        result ≡ probed named slots name.now }
+// slot on, round the end. A closure says whether the name of a number that a slot holds is the equal.
+pub fn probe_by<F: Fn(usize) -> bool>(
+    slots: &[u16],
+    name: &[u8],
+    is_equal: F,
+) -> Result<usize, usize>
+    requires slots_len { length slots.now ≡ slot_count }
+    requires asks { (at : ℕ) → at < slot_count → Taken slots.now at → F.pre is_equal (slot_at slots.now at) }
+    ensures { (named : ℕ → Name) →
+        ((number : ℕ) (r : Bool) → F.post is_equal number r → r ≡ eq_name (named number) name.now) →
+        result ≡ probed named slots.now name.now }
 {
     let start = start_slot(name);
     for step in 0..SLOT_COUNT {
         let at = (start + step) % SLOT_COUNT;
-        match look(at) {
-            Slot::Free => return Err(at),
-            Slot::Equal(number) => return Ok(number),
-            Slot::Other => {}
+        let number = slots[at];
+        if number == FREE {
+            return Err(at);
+        }
+        if is_equal(usize::from(number)) {
+            return Ok(usize::from(number));
         }
     }
     Err(start)
 }
 
 impl Index<'_> {
-    // What a slot holds for a name.
-    fn look(&self, name: &[u8], at: usize) -> Slot
-        requires { at < slot_count }
-        ensures { result ≡ seen (name_in self.now.bytes.now self.now.v) self.now.slots.now name.now at }
+    // Whether the name of a number has these bytes.
+    fn is_named(&self, i: usize, name: &[u8]) -> bool
+        ensures { result ≡ eq_name (name_in self.now.bytes.now self.now.v i) name.now }
     {
-        let number = self.slots[at];
-        if number == FREE {
-            return Slot::Free;
-        }
-        let i = usize::from(number);
-        if same_name(any_name(self.bytes, self.v, i), name) {
-            return Slot::Equal(i);
-        }
-        Slot::Other
+        same_name(any_name(self.bytes, self.v, i), name)
     }
 
     // The number of a name with equal bytes, or the slot that the name would enter.
     pub fn probe(&self, name: &[u8]) -> Result<usize, usize>
         ensures { result ≡ probed (name_in self.now.bytes.now self.now.v) self.now.slots.now name.now }
     {
-        probe_by(name, |at| self.look(name, at))
+        probe_by(self.slots, name, |i| self.is_named(i, name))
     }
 
     // What the slots answer: the number of a name with equal bytes, or that there is none.

@@ -14,7 +14,7 @@ use Rattle.name_index_laws.proofs.Agreement.{index_agrees, index_answers}
 use Rattle.name_index_laws.proofs.Entering.{indexed}
 use Rattle.name_index_laws.proofs.Onward.{same_index}
 use Rattle.name_index_laws.specs.Indexed.{Indexed}
-use Rattle.name_index.specs.Probed.{held_or, probed}
+use Rattle.name_index.specs.Probed.{Taken, held_or, probed}
 use Rattle.name_index.proofs.Entering.{absent_below, none_entered}
 use Rattle.words.specs.declared.NameTable.{NameTable}
 use Rattle.words.specs.Table.{Table, NoNames, searched}
@@ -63,8 +63,8 @@ module _ {held : NameTable} {text : List ℕ} (table : Table held text) where
   slots_size = slots_index.size
 
   -- a slot that is not free holds the number of a name
-  pub number_below : (slot : ℕ) {n : ℕ} → slot_at held.slots slot ≡ n → (n ≡ free → ⊥) → n < held.count
-  number_below slot holds taken = rw holds at (slots_index.entered slot (λ e. taken (sym holds ∙ e))).0
+  pub number_below : (slot : ℕ) → Taken held.slots slot → slot_at held.slots slot < held.count
+  number_below slot taken = (slots_index.entered slot taken).0
 
   -- what probing says of the names
   module _ (x : Name) where

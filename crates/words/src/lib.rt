@@ -1,21 +1,22 @@
 // What stands in front in the text of a term: words, names, expected bytes. Each reader gives the place after what it read, or none
 // where that does not stand there.
+// A text and a place in it are two parameters, and no cursor with a ghost field for `at ≤ length text.now`: the readers answer places, so
+// each call would build a cursor and show there what it shows now, and each clause would say `drop c.at c.text.now` for `drop at text.now`.
 #![tactic(auto)]
 
 ghost use Rattle.std.specs.Prelude.{◌≡◌, ◌+◌, ◌*◌, ◌≤◌, ◌<◌, length, drop, None, MatchOption};
+ghost use Rattle.definitions.specs.Name.{eq_name};
 ghost use Rattle.definitions.specs.TermText.{is_admitted, all_admitted};
 ghost use Rattle.definitions.specs.CallerNames.{names_in};
 ghost use Rattle.definitions.specs.Sheet.{name_limit, pair_size, marked};
-ghost use Rattle.definitions.specs.NameIndex.{slot_count};
 ghost use Rattle.definitions.specs.TermReader.{name, expect, start_of, argument_follows};
-ghost use Rattle.name_index.specs.Probed.{seen};
 ghost use Rattle.words.specs.Places.{between, WordEnds, NameEnds, Expected};
 ghost use Rattle.words.specs.Starts.{as_start};
 ghost use Rattle.words.specs.Table.{Table, NoNames, NamePlace, TooMany, NumberOf, PairFits, searched, with_number, with_pair};
 
 use caller_names::{is_listed, names_in, well_formed};
 use identifier::{Class, same_name};
-use name_index::{FREE, SLOT_COUNT, Slot, probe_by};
+use name_index::{FREE, SLOT_COUNT, probe_by};
 use number::{Marked, PAIR_SIZE};
 use output::Writer;
 use output::sink::put_u16;
@@ -151,6 +152,7 @@ pub fn argument_follows(text: &[u8], at: usize) -> bool
 }
 
 // The names met in a text, in the order in which they were met: their pairs, which mark them there, and slots that are their index.
+// The slots hold numbers and `FREE`, and no Options: the laws of the index are over lists of numbers, which slots that C lends are too.
 #[derive(Drop)]
 pub struct NameTable {
     pub pairs: [u8; PAIR_SIZE * NAME_LIMIT],
@@ -196,33 +198,27 @@ impl NameTable {
         self.count = 0;
     }
 
-    // What a slot holds for a name.
-    fn look(&self, text: &[u8], name: &[u8], slot: usize) -> Slot
-        requires { Table self.now text.now × (slot < slot_count) }
-        ensures { result ≡ seen (marked self.now.pairs text.now) self.now.slots name.now slot }
+    // Whether the name of a number has these bytes.
+    fn is_named(&self, text: &[u8], number: usize, name: &[u8]) -> bool
+        requires { Table self.now text.now × (number < self.now.count) }
+        ensures { result ≡ eq_name (marked self.now.pairs text.now number) name.now }
     {
-        let held = self.slots[slot];
-        if held == FREE {
-            return Slot::Free;
-        }
-        let number = usize::from(held);
         let names = Marked {
             pairs: &self.pairs,
             bytes: text,
         };
-        if same_name(names.piece(number), name) {
-            return Slot::Equal(number);
-        }
-        Slot::Other
+        same_name(names.piece(number), name)
     }
 
     // The number of a name with these bytes, or the slot that the name would enter.
-    #[tactic(auto, unfolding(crate::specs::Table::searched))]
+    #[tactic(auto, using(crate::proofs::Indexing::slots_size, crate::proofs::Indexing::number_below), unfolding(crate::specs::Table::searched))]
     fn find(&self, text: &[u8], name: &[u8]) -> Result<usize, usize>
         requires { Table self.now text.now }
         ensures { result ≡ searched self.now text.now name.now }
     {
-        probe_by(name, |slot| self.look(text, name, slot))
+        probe_by(&self.slots, name, |number| {
+            self.is_named(text, number, name)
+        })
     }
 
     // The number of the name that stands from `at` to `end`: of the pair that marks the same bytes, or else of a new pair, which enters

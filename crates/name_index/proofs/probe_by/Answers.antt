@@ -1,35 +1,54 @@
 -- The slots before the first that holds no other's number are stepped over.
-use mathlib.Core.Path.{refl, sym}
+use Prim.Native.Nat.{◌+◌, ◌%◌}
+use mathlib.Core.Path.{refl, sym, ◌∙◌}
 use native.Mathlib.Omega.{arith}
-use borrow.Author.Rules.{rules}
-use Rattle.definitions.specs.NameIndex.{start_slot, slot_count}
-use Rattle.name_index.specs.declared.Slot.TheVariants.{Free, Equal, Other}
-use Rattle.name_index.proofs.Probing.{at_free, at_equal, past_all}
+use Rattle.definitions.specs.NameIndex.{start_slot, slot_count, free}
+use Rattle.name_index.proofs.Probing.{slot_here, one_further, at_free, at_equal, past_all}
 use Rattle.name_index.proofs.probe_by.Goals as goal
 
 pub overflow_add-at : goal.overflow_add-at
 unfolding start_slot slot_count
 overflow_add-at g c = omega (arith, c.start_slot-start.ensures)
 
-pub look-requires : goal.look-requires
+pub bounds-slots-at : goal.bounds-slots-at
 unfolding slot_count
-look-requires g c = search rules
+bounds-slots-at g c = omega (arith, c.requires.slots_len)
 
-pub returns-in-Free : goal.returns-in-Free
-unfolding slot_count
-returns-in-Free g c = λ named slots agrees.
+pub returns-then-number : goal.returns-then-number
+unfolding slot_count free
+returns-then-number g c = λ named agrees.
+    let here = slot_here c.args.slots.now _ c.requires.slots_len (omega arith) in
     rw c.start_slot-start.ensures
-    (at_free named slots _ (λ k l. sym (agrees _ Other (omega arith) (rw c.start_slot-start.ensures at (c.loop-step.invariant k l))))
-    c.loop-step-test.true (sym (agrees _ Free (omega arith) (rw (c.in-Free.is, c.start_slot-start.ensures) at c.look.ensures))))
+    (at_free named c.args.slots.now _
+    (λ k l. let passed = rw c.start_slot-start.ensures at (c.loop-step.invariant k l) in record { taken = passed.0; other = sym (agrees _ _ passed.1) })
+    c.loop-step-test.true (rw c.start_slot-start.ensures at (here ∙ c.if-number.true)))
 
-pub returns-in-Equal : goal.returns-in-Equal
-unfolding slot_count
-returns-in-Equal g c = λ named slots agrees.
-    at_equal named slots _ (λ k l. sym (agrees _ Other (omega arith) (rw c.start_slot-start.ensures at (c.loop-step.invariant k l))))
-    c.loop-step-test.true (sym (agrees _ (Equal c.in-Equal.number) (omega arith) (rw (c.in-Equal.is, c.start_slot-start.ensures) at c.look.ensures)))
+pub is_equal-requires : goal.is_equal-requires
+unfolding slot_count free
+is_equal-requires g c =
+    let holds = slot_here c.args.slots.now _ c.requires.slots_len (omega arith) ∙ sym c.from.ensures in
+    rw holds at (c.requires.asks ((c.start_slot-start.result + c.loop-step.step) % 1024) (omega arith) (λ e. c.if-number.false (sym c.from.ensures ∙ (sym holds ∙ e))))
+
+pub returns-then-is_equal : goal.returns-then-is_equal
+unfolding slot_count free
+returns-then-is_equal g c = λ named agrees.
+    let holds = slot_here c.args.slots.now _ c.requires.slots_len (omega arith) ∙ sym c.from.ensures in
+    rw c.from-then-is_equal.ensures
+    (at_equal named c.args.slots.now _
+    (λ k l. let passed = rw c.start_slot-start.ensures at (c.loop-step.invariant k l) in record { taken = passed.0; other = sym (agrees _ _ passed.1) })
+    c.loop-step-test.true (rw (c.start_slot-start.ensures, c.from.ensures) at holds) c.if-number.false
+    (sym (agrees _ _ (rw (c.from.ensures, c.if-is_equal.true) at c.is_equal.ensures))))
+
+pub loop-step-preserved : goal.loop-step-preserved
+unfolding slot_count free
+loop-step-preserved g c =
+    let holds = slot_here c.args.slots.now ((c.start_slot-start.result + c.loop-step.step) % 1024) c.requires.slots_len (omega arith) ∙ sym c.from.ensures in
+    one_further _ c.loop-step.step c.loop-step.invariant
+    (λ e. c.if-number.false (sym c.from.ensures ∙ (sym holds ∙ e)), rw (holds, ← c.if-is_equal.false) c.is_equal.ensures)
 
 pub returns : goal.returns
 unfolding slot_count
-returns g c = λ named slots agrees.
+returns g c = λ named agrees.
     rw c.start_slot-start.ensures
-    (past_all named slots _ (λ k l. sym (agrees _ Other (omega arith) (rw c.start_slot-start.ensures at (c.loop-step.invariant k (omega arith))))) refl)
+    (past_all named c.args.slots.now _
+    (λ k l. let passed = rw c.start_slot-start.ensures at (c.loop-step.invariant k (omega arith)) in record { taken = passed.0; other = sym (agrees _ _ passed.1) }) refl)
