@@ -66,7 +66,8 @@ pub fn connective_at(text: &[u8], at: usize) -> Option<Connective>
     None
 }
 
-// The sign at `at`, each looked for in turn.
+// The sign at `at`, each looked for in turn: a `find` over the six would need their bytes as a function of the sign, which nothing else
+// asks, and so an array and a `match` of six lines each in place of the six tests.
 pub fn sign_at(text: &[u8], at: usize) -> Option<Sign>
     requires { at ≤ length text.now }
     ensures { MatchOption result (sign (drop at text.now) ≡ None) (SignAt text.now at) }
