@@ -20,8 +20,9 @@ use term_stack::{Entry, Progress, Purpose, State, Work, enter, use_leaf};
 use words::{NameTable, NamedFunction, Start, expect, name_end, start_of, word_end};
 
 // Each function is lent the memories that it reads or writes and no others, so that its contract says of the others that they stay: over
-// a struct of text, list, names, code and work every clause would speak of all five. What a function asks of them together, as
-// `NamesBegin`, is a fact over several loans, which no type of one of them can hold.
+// a struct of text, list, names, code and work every clause would speak of all five. Text and list never change, but no fact is of these
+// two: what is asked of them is asked with the names, the code and the progress, as by `TurnBegins`. So a struct of both would move no
+// clause, and the functions that read the text alone, which most are, would still take the text.
 
 // A name as a closed term, from `s.at` to `end`, read for a purpose.
 fn name_for(
