@@ -17,74 +17,76 @@ use number::number_at;
 use output::Sink;
 use output::sink::{put_u16, put_u16s};
 use prefix_code::{Head, ParameterKind, head_end, parameter_end};
-use steps::{
-    Conclusion, Identifier, Judgement, PROP_IS_TRUE, Rule, Step, TYPE_JUDGEMENT, step_at,
-};
+use steps::{Conclusion, Identifier, Judgement, PROP_IS_TRUE, Rule, Step, TYPE_JUDGEMENT, step_at};
 
-// Code, place and map stand loose in what follows: the place moves from call to call, and what is asked and promised is one relation of a
-// coding, `Standing` or `Renumbers`, in which each function names its own.
-
-// The name whose number stands at a position, through the map.
-#[tactic(auto, unfolding(crate::specs::Renumbered::mapped))]
-fn put_name<S: Sink<u8>>(code: &[u8], at: usize, numbers: &[u16], sink: &mut S)
-    requires { (at + 1 < length code.now) × (number_at code.now at < length numbers.now) }
-    ensures { S.puts sink.old (u16 (mapped numbers.now (number_at code.now at))) sink.new }
-{
-    put_u16(sink, numbers[number_at(code, at)]);
-}
-
-// The parameter at a position: its kind, its name through the map, and its id if it has one.
-fn put_parameter<S: Sink<u8>>(code: &[u8], at: usize, numbers: &[u16], sink: &mut S)
-    requires { (names : ℕ) × Standing (parameter_coding names) code.now at × (names ≤ length numbers.now) }
-    ensures { (names : ℕ) →
-        Renumbers (parameter_coding names) rename_parameter code.now at numbers.now S.puts sink.old sink.new }
-{
-    let byte = code[at];
-    sink.put(byte);
-    put_name(code, at + 1, numbers, sink);
-    match ParameterKind::of_known(byte) {
-        ParameterKind::Uninstantiated => {}
-        ParameterKind::Instantiated => put_u16(sink, number_at(code, at + 3) as u16),
-    }
-}
-
-// So many parameters from a position on, gone through by hand, as in prop::put_atom.
-fn put_parameters<S: Sink<u8>>(
-    code: &[u8],
-    at: usize,
-    count: usize,
+// The code of a proposition with so many names, and the map that has a number for each of these. The place stands loose: it moves from call
+// to call. What is asked and promised is one relation of a coding, `Standing` or `Renumbers`, in which each method names its own.
+#[derive(Clone, Copy)]
+struct MappedCode<'a> {
+    code: &'a [u8],
     names: usize,
-    numbers: &[u16],
-    sink: &mut S,
-)
-    requires { Standing (parameters_coding names count) code.now at × (names ≤ length numbers.now) }
-    ensures { Renumbers (parameters_coding names count) rename_parameters code.now at numbers.now S.puts sink.old sink.new }
-{
-    let mut i = at;
-    for _ in 0..count {
-        put_parameter(code, i, numbers, sink);
-        i = parameter_end(code, i, names);
-    }
+    numbers: &'a [u16],
+    ghost enough: { names ≤ length numbers.now },
 }
 
-// The head at a position: all that stands before its parts.
-fn put_head<S: Sink<u8>>(code: &[u8], at: usize, names: usize, numbers: &[u16], sink: &mut S)
-    requires { Standing (head_coding names) code.now at × (names ≤ length numbers.now) }
-    ensures { Renumbers (head_coding names) rename_head code.now at numbers.now S.puts sink.old sink.new }
-{
-    let front = code[at];
-    sink.put(front);
-    match Head::of_known(front) {
-        Head::True | Head::False | Head::Binary(_) => {}
-        Head::Atom => {
-            let count = code[at + 3];
-            put_name(code, at + 1, numbers, sink);
-            sink.put(count);
-            put_parameters(code, at + 4, count as usize, names, numbers, sink);
+impl MappedCode<'_> {
+    // The name whose number stands at a position, through the map.
+    #[tactic(auto, unfolding(crate::specs::Renumbered::mapped))]
+    fn put_name<S: Sink<u8>>(&self, at: usize, sink: &mut S)
+        requires { (at + 1 < length self.now.code.now) × (number_at self.now.code.now at < self.now.names) }
+        ensures { S.puts sink.old (u16 (mapped self.now.numbers.now (number_at self.now.code.now at))) sink.new }
+    {
+        put_u16(sink, self.numbers[number_at(self.code, at)]);
+    }
+
+    // The parameter at a position: its kind, its name through the map, and its id if it has one.
+    fn put_parameter<S: Sink<u8>>(&self, at: usize, sink: &mut S)
+        requires { Standing (parameter_coding self.now.names) self.now.code.now at }
+        ensures { Renumbers (parameter_coding self.now.names) rename_parameter self.now.code.now at self.now.numbers.now
+            S.puts sink.old sink.new }
+    {
+        let byte = self.code[at];
+        sink.put(byte);
+        self.put_name(at + 1, sink);
+        match ParameterKind::of_known(byte) {
+            ParameterKind::Uninstantiated => {}
+            ParameterKind::Instantiated => put_u16(sink, number_at(self.code, at + 3) as u16),
         }
-        Head::Quantified(_) => {
-            put_name(code, at + 1, numbers, sink);
-            put_name(code, at + 3, numbers, sink);
+    }
+
+    // So many parameters from a position on, gone through by hand, as prefix_code::parameters_end says.
+    fn put_parameters<S: Sink<u8>>(&self, at: usize, count: usize, sink: &mut S)
+        requires { Standing (parameters_coding self.now.names count) self.now.code.now at }
+        ensures { Renumbers (parameters_coding self.now.names count) rename_parameters self.now.code.now at self.now.numbers.now
+            S.puts sink.old sink.new }
+    {
+        let mut i = at;
+        for _ in 0..count {
+            self.put_parameter(i, sink);
+            i = parameter_end(self.code, i, self.names);
+        }
+    }
+
+    // The head at a position: all that stands before its parts.
+    fn put_head<S: Sink<u8>>(&self, at: usize, sink: &mut S)
+        requires { Standing (head_coding self.now.names) self.now.code.now at }
+        ensures { Renumbers (head_coding self.now.names) rename_head self.now.code.now at self.now.numbers.now
+            S.puts sink.old sink.new }
+    {
+        let front = self.code[at];
+        sink.put(front);
+        match Head::of_known(front) {
+            Head::True | Head::False | Head::Binary(_) => {}
+            Head::Atom => {
+                let count = self.code[at + 3];
+                self.put_name(at + 1, sink);
+                sink.put(count);
+                self.put_parameters(at + 4, count as usize, sink);
+            }
+            Head::Quantified(_) => {
+                self.put_name(at + 1, sink);
+                self.put_name(at + 3, sink);
+            }
         }
     }
 }
@@ -94,11 +96,16 @@ pub fn put_proposition<S: Sink<u8>>(code: &[u8], names: usize, numbers: &[u16], 
     requires { Whole names code.now × (names ≤ length numbers.now) }
     ensures { PutWhole names code.now numbers.now S.puts sink.old sink.new }
 {
+    let mapped = MappedCode {
+        code,
+        names,
+        numbers,
+    };
     let mut i = 0;
     // A head's own bytes say where it ends, so the place moves by no fixed step. An iterator over heads would have to promise what
     // prop_lists::next_entry tells.
     while i < code.len() {
-        put_head(code, i, names, numbers, sink);
+        mapped.put_head(i, sink);
         i = head_end(code, i, names);
     }
 }

@@ -7,7 +7,7 @@ pub loop-i-init : goal.loop-i-init
 loop-i-init g c = at_first g.met.S.Sink.laws
 
 pub put_head-requires : goal.put_head-requires
-put_head-requires g c = (next_asked g.met.S.Sink.laws c.loop-i.invariant c.requires.0 c.loop-i-test.true, c.requires.1)
+put_head-requires g c = next_asked g.met.S.Sink.laws c.loop-i.invariant c.requires.0 c.loop-i-test.true
 
 pub loop-i-smaller : goal.loop-i-smaller
 loop-i-smaller g c =
