@@ -4,31 +4,21 @@ use mathlib.Core.Path.{◌≡◌, refl, sym, ap, ◌∙◌}
 use mathlib.Core.List.{List, [], ◌∷◌, ◌++◌, map, append_assoc, append-nil}
 use native.Mathlib.Nat.{pos_of_ne-zero}
 use native.Mathlib.Omega.{arith}
-use lib.ListN.{length, get_or, length-map}
+use lib.ListN.{length, length-map}
 use Rattle.definitions.specs.Utf8.{utf8}
 use Rattle.definitions.specs.Name.{Name}
-use Rattle.definitions.specs.Prop.{Prop, True, False, Binary, Atom, Quantified, PropParameter, Uninstantiated, Instantiated, parameter_name, rename_parameter, rename_prop}
+use Rattle.definitions.specs.Prop.{Atom, PropParameter, Uninstantiated, Instantiated, parameter_name, rename_parameter}
 use Rattle.definitions.specs.Code.{encode_parameter, encode_parameters}
 use Rattle.definitions.specs.Sheet.{number_at}
 use Rattle.definitions.specs.Display.{following_parameters, display_parameters, display_prop}
 use Rattle.output.specs.SinkLaws.{SinkLaws}
 use Rattle.prefix_code.specs.Scan.{Stands, Ends, parameter_coding, Several, parameters_coding}
 use Rattle.prefix_code.proofs.Parameters.{ParameterBytes, parameter_bytes, FirstParameter, first_parameter, none_stand}
-use Rattle.prefix_code.proofs.Forms.{AtomAt, atom_at}
-use Rattle.prefix_code.specs.PropAt.{prop_at, Present}
 
 -- the names of parameters with commas between
 abbrev listed : List (PropParameter Name) → List ℕ
 listed [] = []
 listed (p ∷ ps) = parameter_name p ++ following_parameters ps
-
--- the parameters of an atom
-abbrev parameters_of : Prop Name → List (PropParameter Name)
-parameters_of True = []
-parameters_of False = []
-parameters_of (Binary c p q) = []
-parameters_of (Atom a ps) = ps
-parameters_of (Quantified q x t p) = []
 
 -- a parameter that is not the last one is followed by a comma
 followed_last : (ps : List (PropParameter Name)) → length ps ≤ 0 → following_parameters ps ≡ listed ps
@@ -66,37 +56,24 @@ pub record NameAt (names : ℕ) (l : List ℕ) (i size : ℕ) : Type 0 where
   pub inside : i + size ≤ length l
   pub below : number_at l (i + 1) < names
 
-module _ {names : ℕ} {l : List ℕ} {at : ℕ} (h : Present names l at) (byte : get_or l at 0 ≡ 5) where
-  atom_here : AtomAt names l at h.rest (prop_at names l at)
-  atom_here = atom_at names l at h.rest (prop_at names l at) h.stands byte
+module _ (f : ℕ → Name) (names : ℕ) (l : List ℕ) (ps : List (PropParameter ℕ)) where
+  abbrev named : List (PropParameter Name)
+  named = map (rename_parameter f) ps
 
-  pub atom_name : NameAt names l at 4
-  atom_name = let b = atom_here.bytes in record { inside = b.inside; below = rw b.name b.below }
-
-module _ (f : ℕ → Name) (names : ℕ) (l : List ℕ) (at : ℕ) where
-  abbrev named : Prop Name
-  named = rename_prop f (prop_at names l at)
-
-  module _ (h : Present names l at) (byte : get_or l at 0 ≡ 5) where
-    shown : display_prop named ≡ f (number_at l (at + 1)) ++ display_parameters (parameters_of named)
-    unfolding rename_prop display_prop
-    shown = let atom = atom_here h byte in rw (atom.is, ← atom.bytes.name)
-
-    count : length (parameters_of named) ≡ get_or l (at + 3) 0
-    unfolding rename_prop
-    count =
-        let atom = atom_here h byte in
-        rw (atom.is, atom.bytes.count) (length-map atom.parameters (rename_parameter f))
+  module _ (count at : ℕ) (rest : List ℕ) (s : Stands (parameters_coding names count) l at ps rest) where
+    count_named : length named ≡ count
+    unfolding Stands Several
+    count_named = length-map ps (rename_parameter f) ∙ s.0.1
 
     -- an atom without parameters is its name
-    pub bare_atom : get_or l (at + 3) 0 ≡ 0 → f (number_at l (at + 1)) ≡ display_prop named
-    bare_atom none =
-        sym (shown ∙ rw (displayed_none (parameters_of named) (count ∙ none)) (append-nil (f (number_at l (at + 1)))))
+    pub bare_atom : (a : ℕ) → count ≡ 0 → f a ≡ display_prop (Atom (f a) named)
+    unfolding display_prop
+    bare_atom a none = sym (rw (displayed_none named (count_named ∙ none)) (append-nil (f a)))
 
     -- any other one has them in brackets
-    pub full_atom : (get_or l (at + 3) 0 ≡ 0 → ⊥)
-        → f (number_at l (at + 1)) ++ (utf8 "(" ++ (listed (parameters_of named) ++ utf8 ")")) ≡ display_prop named
-    full_atom some = sym (shown ∙ rw (displayed_listed (parameters_of named) (omega (arith, count, pos_of_ne-zero some))))
+    pub full_atom : (a : ℕ) → (count ≡ 0 → ⊥) → f a ++ (utf8 "(" ++ (listed named ++ utf8 ")")) ≡ display_prop (Atom (f a) named)
+    unfolding display_prop
+    full_atom a some = sym (rw (displayed_listed named (omega (arith, count_named, pos_of_ne-zero some))))
 
   -- The part `done` of the list of parameters is written, and so many from i on are still to be listed.
   pub record Listing {S : Type 0} (puts : S → List ℕ → S → Type 0) (before after : S) (i needed : ℕ) : Type 0 where
@@ -104,22 +81,12 @@ module _ (f : ℕ → Name) (names : ℕ) (l : List ℕ) (at : ℕ) where
     todo : List (PropParameter ℕ)
     rest : List ℕ
     stands : Stands (parameters_coding names needed) l i todo rest
-    whole : listed (parameters_of named) ≡ done ++ listed (map (rename_parameter f) todo)
+    whole : listed named ≡ done ++ listed (map (rename_parameter f) todo)
     wrote : puts before done after
 
-  pub listing_starts : {S : Type 0} {puts : S → List ℕ → S → Type 0} → SinkLaws puts → Present names l at → get_or l at 0 ≡ 5
-      → (sink : S) → Listing puts sink sink (at + 4) (get_or l (at + 3) 0)
-  unfolding rename_prop
-  listing_starts laws h byte sink =
-      let atom = atom_here h byte in
-      record {
-        done = [];
-        todo = atom.parameters;
-        rest = h.rest;
-        stands = atom.bytes.parameters;
-        whole = rw atom.is;
-        wrote = laws.none sink;
-      }
+  pub listing_starts : {S : Type 0} {puts : S → List ℕ → S → Type 0} → SinkLaws puts → (count at : ℕ) (rest : List ℕ)
+      → Stands (parameters_coding names count) l at ps rest → (sink : S) → Listing puts sink sink at count
+  listing_starts laws count at rest s sink = record { done = []; todo = ps; rest = rest; stands = s; whole = refl; wrote = laws.none sink }
 
   module _ {S : Type 0} {puts : S → List ℕ → S → Type 0} (laws : SinkLaws puts) {before out : S} {i needed : ℕ}
       (s : Listing puts before out i needed) where
@@ -136,7 +103,7 @@ module _ (f : ℕ → Name) (names : ℕ) (l : List ℕ) (at : ℕ) where
       unfolding Stands Several
       count_others = length-map next.others (rename_parameter f) ∙ next.stands.0.1
 
-      whole : listed (parameters_of named) ≡ s.done ++ (f (parameter_name next.parameter) ++ following_parameters others)
+      whole : listed named ≡ s.done ++ (f (parameter_name next.parameter) ++ following_parameters others)
       whole = s.whole ∙ ap (λ t. s.done ++ t) (listed_first f next.is)
 
       abbrev bytes : ParameterBytes names l i next.parameter (encode_parameters next.others ++ s.rest)
@@ -169,8 +136,8 @@ module _ (f : ℕ → Name) (names : ℕ) (l : List ℕ) (at : ℕ) where
               → Listing puts before after j (needed - 1)
           listing_comma more comma = listing_with (utf8 ", ") (followed_comma _ (omega (arith, count_others))) (laws.then name comma)
 
-    pub listing_ends : needed ≤ 0 → puts before (listed (parameters_of named)) out
+    pub listing_ends : needed ≤ 0 → puts before (listed named) out
     listing_ends none =
         let empty = none_stand names l i needed s.todo s.rest none s.stands in
-        let all : listed (parameters_of named) ≡ s.done ++ [] = s.whole ∙ rw empty in
+        let all : listed named ≡ s.done ++ [] = s.whole ∙ rw empty in
         rw (all, append-nil) s.wrote

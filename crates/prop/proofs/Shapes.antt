@@ -1,18 +1,20 @@
 -- What the shape of a proposition tells of its parts and its text.
-use Prim.Native.Nat.{ℕ, ◌+◌}
+use Prim.Native.Nat.{ℕ, ◌+◌, ◌<◌}
 use mathlib.Core.Path.{◌≡◌, refl, sym, ap, ◌∙◌}
 use mathlib.Core.List.{List}
 use native.Mathlib.Omega.{arith}
 use lib.ListN.{get_or}
 use Rattle.definitions.specs.Utf8.{utf8}
 use Rattle.definitions.specs.Name.{Name}
-use Rattle.definitions.specs.Prop.{for_all, exists, connective_byte, quantifier_byte, rename_prop}
+use Rattle.definitions.specs.Prop.{PropParameter, for_all, exists, connective_byte, quantifier_byte, rename_prop}
 use Rattle.definitions.specs.Code.{encode}
 use Rattle.definitions.specs.Sheet.{number_at}
 use Rattle.definitions.specs.Display.{display_prop}
 use Rattle.prefix_code.proofs.Heads.{connective_byte_lem, quantifier_byte_lem}
 use Rattle.prefix_code.proofs.Shapes.{meant_at}
+use Rattle.prefix_code.proofs.Forms.{atom_at}
 use Rattle.prefix_code.specs.PropAt.{prop_at}
+use Rattle.prefix_code.specs.Scan.{Stands, parameters_coding}
 use Rattle.prefix_code.specs.Shape.{connective_at, meant, quantifier_at, quantifier_meant, ShapeOf, is_true, is_false, is_binary, is_atom, is_quantified}
 use Rattle.prefix_code.specs.declared.Connective.{Connective}
 use Rattle.prefix_code.specs.declared.Quantifier.{Quantifier}
@@ -36,9 +38,23 @@ module _ {names : ℕ} {l : List ℕ} {at : ℕ} where
   false_text f (is_false is) = rw is refl
 
 module _ {names : ℕ} {l ends : List ℕ} {at : ℕ} (k : Known names l ends at) where
-  pub atom_byte : {name count parameters : ℕ} → ShapeOf names l at (Atom name count parameters) → get_or l at 0 ≡ 5
+  -- an atom: its name, and its parameters
+  pub record Applied (name count parameters : ℕ) : Type 0 where
+    pub list : List (PropParameter ℕ)
+    pub is : prop_at names l at ≡ proposition.Atom name list
+    pub below : name < names
+    pub stands : Stands (parameters_coding names count) l parameters list k.present.rest
+
+  pub applied : {name count parameters : ℕ} → ShapeOf names l at (Atom name count parameters) → Applied name count parameters
   unfolding encode
-  atom_byte (is_atom is count) = head_byte_lem k.present ∙ ap head_byte is
+  applied (is_atom is count) =
+      let a = atom_at names l at k.present.rest (prop_at names l at) k.present.stands (head_byte_lem k.present ∙ ap head_byte is) in
+      record {
+        list = a.parameters;
+        is = a.is ∙ ap (λ n. proposition.Atom n a.parameters) (sym a.bytes.name);
+        below = omega (arith, a.bytes.name, a.bytes.below);
+        stands = a.bytes.parameters;
+      }
 
   -- a binary proposition: its connective, and where its left side stands
   pub record Sides (connective : Connective) (left : ℕ) : Type 0 where

@@ -1,10 +1,10 @@
 -- What it takes to print a proposition, and its text.
-use Rattle.std.specs.Prelude.{ℕ, ◌<◌, ◌≡◌, List, ◌++◌, get_or, ltb}
+use Rattle.std.specs.Prelude.{ℕ, ◌<◌, List, ◌++◌, map, ltb}
 use Rattle.definitions.specs.Utf8.{utf8}
 use Rattle.definitions.specs.Name.{Name}
-use Rattle.definitions.specs.Prop.{Prop, Quantifier, rename_prop}
+use Rattle.definitions.specs.Prop.{Prop, Atom, PropParameter, Quantifier, rename_parameter, rename_prop}
 use Rattle.definitions.specs.Display.{wrap, precedence, quantifier_text, display_prop}
-use Rattle.prefix_code.specs.PropAt.{Present}
+use Rattle.prefix_code.specs.Scan.{Stands, parameters_coding}
 use Rattle.vocabulary.specs.declared.Vocabulary.{Vocabulary}
 use Rattle.vocabulary.specs.Vocabulary.{code_in, name_in, prop_in, Within, Names}
 use Rattle.prop.specs.Ends.{Known}
@@ -31,12 +31,23 @@ module _ (bytes : List ℕ) (v : Vocabulary) where
     pub known : KnownIn ends at
     pub named : (n : ℕ) → n < v.name_count → Names bytes v n
 
-  -- an atom stands at `at`, and each name is there
-  pub record AtomPrintable (at : ℕ) : Type 0 where
+  -- so many parameters stand at a position
+  abbrev pub ParametersIn : ℕ → ℕ → List (PropParameter ℕ) → List ℕ → Type 0
+  ParametersIn count at = Stands (parameters_coding v.name_count count) (code_in bytes v) at
+
+  -- so it is with the parameters of an atom, whose name is one, and each name is there
+  pub record AtomPrintable (name count at : ℕ) : Type 0 where
     pub within : Within bytes v
-    pub present : Present v.name_count (code_in bytes v) at
-    pub byte : get_or (code_in bytes v) at 0 ≡ 5
+    pub below : name < v.name_count
+    pub parameters : List (PropParameter ℕ)
+    pub rest : List ℕ
+    pub stands : ParametersIn count at parameters rest
     pub named : (n : ℕ) → n < v.name_count → Names bytes v n
+
+  -- the atom is put with whatever parameters stand there
+  abbrev pub AtomPut : ℕ → ℕ → ℕ → {S : Type 0} → (S → List ℕ → S → Type 0) → S → S → Type 0
+  AtomPut name count at puts before after = (ps : List (PropParameter ℕ)) (rest : List ℕ) → ParametersIn count at ps rest
+      → puts before (display_prop (Atom (name_in bytes v name) (map (rename_parameter (name_in bytes v)) ps))) after
 
 -- a proposition stands at `at` with its ends in the table, whatever the count of names is
 pub record Legible (code ends : List ℕ) (at : ℕ) : Type 0 where

@@ -4,7 +4,7 @@ use Rattle.definitions.specs.Name.{Name}
 use Rattle.definitions.specs.Prop.{Prop}
 use Rattle.vocabulary.specs.Vocabulary.{name_in, Names}
 use Rattle.prop.specs.declared.Propositions.{Propositions}
-use Rattle.prop.specs.Printing.{named_prop, prop_text, part_text, AtomPrintable, Printable}
+use Rattle.prop.specs.Printing.{named_prop, prop_text, part_text, AtomPrintable, AtomPut, Printable}
 
 module _ (m : Propositions) where
   abbrev pub names_of : ℕ → Name
@@ -19,12 +19,16 @@ module _ (m : Propositions) where
   abbrev pub part_at : ℕ → ℕ → List ℕ
   part_at = part_text m.bytes.now m.v
 
-  -- a number is that of a name; an atom, and a proposition with its ends, stand at a position
+  -- a number is that of a name, an atom has a name and parameters, and a proposition stands at a position with its ends
   abbrev pub HasName : ℕ → Type 0
   HasName = Names m.bytes.now m.v
 
-  abbrev pub HasAtom : ℕ → Type 0
+  abbrev pub HasAtom : ℕ → ℕ → ℕ → Type 0
   HasAtom = AtomPrintable m.bytes.now m.v
 
   abbrev pub HasProposition : ℕ → Type 0
   HasProposition = Printable m.bytes.now m.v m.ends.now
+
+  -- the atom is put
+  abbrev pub PutsAtom : ℕ → ℕ → ℕ → {S : Type 0} → (S → List ℕ → S → Type 0) → S → S → Type 0
+  PutsAtom = AtomPut m.bytes.now m.v

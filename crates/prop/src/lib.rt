@@ -10,7 +10,7 @@ ghost use Rattle.prefix_code.specs.PropAt.{prop_at};
 ghost use Rattle.prefix_code.specs.Shape.{quantifier_meant};
 ghost use Rattle.prop.specs.Ends.{Known, Fillable, Filled, AllFillable};
 ghost use Rattle.prop.specs.Printing.{quantifier_head, Legible};
-ghost use Rattle.prop.specs.Propositions.{names_of, prop_named, text_at, part_at, HasName, HasAtom, HasProposition};
+ghost use Rattle.prop.specs.Propositions.{names_of, prop_named, text_at, part_at, HasName, HasAtom, PutsAtom, HasProposition};
 
 use number::{number_at, pair_offset};
 use output::Sink;
@@ -113,20 +113,25 @@ fn put_quantifier<S: Sink<u8>>(
     sink.put_all(b". ");
 }
 
-// An atom with its parameters. The place moves by hand: an iterator over the parameters would hold the code, the place, the count and the
-// names with the fact that so many stand there, and the loop would still have to say which are written and whether a comma follows.
-fn put_atom<S: Sink<u8>>(sink: &mut S, propositions: &Propositions, at: usize)
-    requires { HasAtom propositions.now at }
-    ensures { S.puts sink.old (text_at propositions.now at) sink.new }
+// An atom with its parameters, from the name, the count and the place that its shape gives. The place moves by hand, as
+// prefix_code::parameters_end says.
+fn put_atom<S: Sink<u8>>(
+    sink: &mut S,
+    propositions: &Propositions,
+    name: usize,
+    count: u8,
+    parameters: usize,
+)
+    requires { HasAtom propositions.now name count parameters }
+    ensures { PutsAtom propositions.now name count parameters S.puts sink.old sink.new }
 {
-    let code = code_of(propositions.bytes, propositions.v);
-    sink.put_all(propositions.name(number_at(code, at + 1)));
-    let count = code[at + 3];
+    sink.put_all(propositions.name(name));
     if count == 0 {
         return;
     }
     sink.put(b'(');
-    let mut i = at + 4;
+    let code = code_of(propositions.bytes, propositions.v);
+    let mut i = parameters;
     for left in (0..count).rev() {
         sink.put_all(propositions.name(number_at(code, i + 1)));
         i = parameter_end(code, i, propositions.v.name_count);
@@ -161,7 +166,11 @@ pub fn put_proposition<S: Sink<u8>>(sink: &mut S, propositions: &Propositions, a
     match shape(propositions.bytes, propositions.v, at) {
         Shape::True => sink.put_all(b"\xE2\x8A\xA4"), // ⊤
         Shape::False => sink.put_all(b"\xE2\x8A\xA5"), // ⊥
-        Shape::Atom { .. } => put_atom(sink, propositions, at),
+        Shape::Atom {
+            name,
+            count,
+            parameters,
+        } => put_atom(sink, propositions, name, count, parameters),
         Shape::Quantified {
             quantifier,
             object,

@@ -6,11 +6,12 @@ use native.Mathlib.Omega.{arith}
 use lib.ListN.{length}
 use borrow.Author.Tests.{lt-ltb, le-ltb}
 use Rattle.definitions.specs.Display.{wrap}
+use Rattle.definitions.specs.Prop.{rename_prop}
 use Rattle.prefix_code.proofs.Reading.{inside}
 use Rattle.vocabulary.specs.declared.Vocabulary.{Vocabulary}
 use Rattle.vocabulary.specs.Vocabulary.{code_in, name_in, prop_in}
 use Rattle.prop.specs.Printing.{KnownIn, Printable}
-use Rattle.prop.proofs.Shapes.{true_text, false_text, atom_byte, Sides, sides, Scope, scope}
+use Rattle.prop.proofs.Shapes.{true_text, false_text, applied, Sides, sides, Scope, scope}
 use Rattle.prop.proofs.Shown.{below_as, quantified_text, negation_text, binary_text}
 use Rattle.prop.proofs.+put_proposition.Goals as goal
 use Rattle.prop.proofs.+put_proposition.Goals.{put_proposition-In-Binary, put_proposition-In-Quantified}
@@ -64,7 +65,13 @@ put_proposition-returns-in-False g t c = rw (← (false_text (name_in c.args.pro
 pub put_proposition-put_atom-requires : goal.put_proposition-put_atom-requires
 put_proposition-put_atom-requires g t c =
     let s = c.requires in
-    record { within = s.within; present = s.known.present; byte = atom_byte s.known c.in-Atom.ensures; named = s.named }
+    let a = applied s.known c.in-Atom.ensures in
+    record { within = s.within; below = a.below; parameters = a.list; rest = s.known.present.rest; stands = a.stands; named = s.named }
+
+pub put_proposition-returns-in-Atom : goal.put_proposition-returns-in-Atom
+unfolding prop_in rename_prop
+put_proposition-returns-in-Atom g t c =
+    let a = applied c.requires.known c.in-Atom.ensures in rw a.is (c.put_atom.ensures a.list c.requires.known.present.rest a.stands)
 
 pub put_proposition-put_quantifier-requires : goal.put_proposition-put_quantifier-requires
 put_proposition-put_quantifier-requires g t c =
