@@ -10,6 +10,7 @@ ghost use Rattle.definitions.specs.TermReader.{parameters_of};
 ghost use Rattle.std.proofs.lemmas.List.Edits.{sets};
 ghost use Rattle.words.specs.Places.{between};
 ghost use Rattle.words.specs.Table.{table_names, NamePlace};
+ghost use Rattle.prop_parts.specs.Found.{code_reach};
 ghost use Rattle.atom_reader.specs.Scope.{Binds};
 ghost use Rattle.atom_reader.specs.Reading.{Begins, parameters_from, ParameterAnswer, ParametersAnswer, atom_head, atom_from, PropAnswer};
 
@@ -139,7 +140,7 @@ fn atom_parameters(
 // What stands in the code of an atom before its parameters.
 #[tactic(auto, unfolding(crate::specs::Reading::atom_head, definitions::specs::Code::u16))]
 fn put_atom(code: &mut [u8], to: usize, number: usize, parameters: usize)
-    requires { (to < 200000) × (number < 65536) × (parameters < 256) }
+    requires { (to < code_reach) × (number < 65536) × (parameters < 256) }
     ensures { code.new ≡ sets code.old to (atom_head number parameters) }
 {
     put(code, to, ATOM);

@@ -13,7 +13,7 @@ use Rattle.std.proofs.lemmas.List.Edits.{sets}
 use Rattle.words.specs.declared.NameTable.{NameTable}
 use Rattle.words.specs.Table.{number_in, table_names, Noted}
 use Rattle.prop_parts.specs.declared.Opening.{Opening}
-use Rattle.prop_parts.specs.Found.{bound_numbers, opening_sign, sign_size}
+use Rattle.prop_parts.specs.Found.{code_reach, bound_numbers, opening_sign, sign_size}
 use Rattle.atom_reader.specs.declared.Place.{Place}
 use Rattle.prop_frames.specs.declared.BinderRead.{BinderRead}
 use Rattle.atom_reader.specs.declared.PropRead.{PropRead}
@@ -146,8 +146,8 @@ pub record FrontAnswer
 -- a part may be closed: its end, and how large it is at most
 pub record Closable (text : List ℕ) (to : ℕ) (part : PropRead) : Type 0 where
   pub within : part.end ≤ length text
-  pub near : to + part.size < 200000
-  pub shallow : part.nesting < 200000
+  pub near : to + part.size < code_reach
+  pub shallow : part.nesting < code_reach
 
 -- what is known of a proposition around its part
 unfoldable pub enclosed : PropRead → ℕ → ℕ → PropRead

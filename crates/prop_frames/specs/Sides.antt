@@ -8,6 +8,7 @@ use Rattle.definitions.proofs.Readings.{given}
 use Rattle.std.proofs.lemmas.List.Edits.{sets}
 use Rattle.prefix_code.specs.declared.Connective as read
 use Rattle.prefix_code.specs.Shape.{meant}
+use Rattle.prop_parts.specs.Found.{code_reach}
 use Rattle.atom_reader.specs.declared.PropRead.{PropRead}
 use Rattle.atom_reader.specs.Reading.{Measured}
 
@@ -29,9 +30,9 @@ inserted l to size b = sets l to (b ∷ take size (drop to l))
 -- two sides may be joined: where the right one ends, and how large they are at most
 pub record Joinable (text : List ℕ) (to : ℕ) (left right : PropRead) : Type 0 where
   pub within : right.end ≤ length text
-  pub near : to + (left.size + right.size) < 200000
-  pub left_shallow : left.nesting < 200000
-  pub right_shallow : right.nesting < 200000
+  pub near : to + (left.size + right.size) < code_reach
+  pub left_shallow : left.nesting < code_reach
+  pub right_shallow : right.nesting < code_reach
 
 -- the whole that is made of two sides, and what became of the code
 pub record JoinedGiven

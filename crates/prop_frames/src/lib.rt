@@ -12,7 +12,7 @@ ghost use Rattle.std.proofs.lemmas.List.Edits.{sets};
 ghost use Rattle.words.specs.declared.NameTable.{NameTable};
 ghost use Rattle.words.specs.Table.{table_names, Table};
 ghost use Rattle.prefix_code.specs.Shape.{meant, quantifier_meant};
-ghost use Rattle.prop_parts.specs.Found.{constant_sign, opening_sign};
+ghost use Rattle.prop_parts.specs.Found.{code_reach, constant_sign, opening_sign};
 ghost use Rattle.atom_reader.specs.Scope.{Binds};
 ghost use Rattle.atom_reader.specs.Reading.{Measured, PropAnswer};
 ghost use Rattle.prop_frames.specs.Fronts.{Part, Front, front_sign, part_least, BinderLacks, Binder, BinderGiven, binder_code, FrontBegins, FrontAnswer, Closable, enclosed, Closes};
@@ -63,7 +63,7 @@ fn binder_names(text: &[u8], at: usize, names: &mut NameTable) -> Option<BinderR
 // What stands in the code of a quantifier before its part.
 #[tactic(auto, unfolding(crate::specs::Fronts::binder_code, definitions::specs::Code::u16))]
 fn put_binder(code: &mut [u8], to: usize, quantifier: Quantifier, object: usize, datatype: usize)
-    requires { (to < 200000) × (object < 65536) × (datatype < 65536) }
+    requires { (to < code_reach) × (object < 65536) × (datatype < 65536) }
     ensures { code.new ≡ sets code.old to
         (binder_code (quantifier_byte (quantifier_meant quantifier)) object datatype) }
 {
@@ -126,7 +126,7 @@ pub fn part_least(sign: Opening) -> usize
 // A proposition around its part, with so many bytes more in code.
 #[tactic(auto, unfolding(crate::specs::Fronts::enclosed))]
 fn enclosing(part: PropRead, bytes: usize, strength: usize) -> PropRead
-    requires { (part.size < 200000) × (part.nesting < 200000) × (bytes < 256) }
+    requires { (part.size < code_reach) × (part.nesting < code_reach) × (bytes < 256) }
     ensures { result ≡ enclosed part bytes strength }
 {
     PropRead {
@@ -181,7 +181,7 @@ pub fn close_prop(
 
 // ⊤ or ⊥, whose sign stands at `p`.
 pub fn read_constant(text: &[u8], code: &mut [u8], p: Place, sign: Constant) -> PropRead
-    requires { (p.at + 3 ≤ length text.now) × (p.to < 200000) × (length text.now ≤ term_text_limit) }
+    requires { (p.at + 3 ≤ length text.now) × (p.to < code_reach) × (length text.now ≤ term_text_limit) }
     ensures { (part : Part) (ns : List Name) (held : NameTable) (bound : List ℕ) → Table held text.now →
         PropAnswer (signed part ns (constant_sign sign) (drop (p.at + 3) text.now))
         text.now held bound code.old p held bound code.new (Some result) }
@@ -229,7 +229,7 @@ fn may_join(connective: Connective, left: PropRead, right: PropRead) -> bool
 // Puts one byte in front of so many from `to` on, as far as there is room.
 #[tactic(auto, unfolding(crate::specs::Sides::inserted))]
 fn insert(code: &mut [u8], to: usize, size: usize, b: u8)
-    requires { to + size < 200000 }
+    requires { to + size < code_reach }
     ensures { code.new ≡ inserted code.old to size b }
 {
     if to < code.len() {

@@ -23,6 +23,10 @@ use Rattle.prop_parts.specs.declared.Opening.TheVariants.{Negation, Bracket, Bin
 use Rattle.prop_parts.specs.declared.Sign.{Sign}
 use Rattle.prop_parts.specs.declared.Sign.TheVariants as read
 
+-- Places, sizes and nestings of a label's code are below this: a text has at most 65,536 bytes, and two bytes of code for each of these.
+abbrev pub code_reach : ℕ
+code_reach = 200000
+
 -- the connective at a place
 pub record ConnectiveAt (text : List ℕ) (at : ℕ) (c : Connective) : Type 0 where
   pub within : at + 5 ≤ length text

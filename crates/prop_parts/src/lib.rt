@@ -10,7 +10,7 @@ ghost use Rattle.definitions.specs.TermReader.{sign, connective};
 ghost use Rattle.definitions.specs.TermText.{term_text_limit};
 ghost use Rattle.std.proofs.lemmas.List.Edits.{sets};
 ghost use Rattle.words.specs.Table.{Table};
-ghost use Rattle.prop_parts.specs.Found.{ConnectiveAt, constant_byte, opening_sign, sign_size, SignAt, NameLacks, NameGiven, bound_numbers, kind_of, ParameterPut};
+ghost use Rattle.prop_parts.specs.Found.{code_reach, ConnectiveAt, constant_byte, opening_sign, sign_size, SignAt, NameLacks, NameGiven, bound_numbers, kind_of, ParameterPut};
 
 use output::{Sink, Writer};
 use prefix_code::{Connective, ParameterKind, Quantifier};
@@ -170,7 +170,7 @@ pub fn parameter_kind(bound: &[u16], number: usize) -> ParameterKind
 // The code of a parameter, instantiated with id 0 where it is not bound. Gives its size.
 #[tactic(auto, unfolding(crate::specs::Found::parameter_of, definitions::specs::Code::encode_parameter, definitions::specs::Code::u16))]
 pub fn put_parameter(code: &mut [u8], to: usize, number: usize, kind: ParameterKind) -> usize
-    requires { (to < 200000) × (number < 65536) }
+    requires { (to < code_reach) × (number < 65536) }
     ensures { ParameterPut kind number code.old to code.new result }
 {
     put(code, to, kind.byte());

@@ -7,6 +7,7 @@ use borrow.Author.Rules.{rules}
 use Rattle.definitions.specs.Code.{parameter_limit}
 use Rattle.definitions.specs.Sheet.{name_limit}
 use Rattle.definitions.specs.TermText.{term_text_limit}
+use Rattle.prop_parts.specs.Found.{code_reach}
 use Rattle.atom_reader.proofs.Scopes.{binds_noted}
 use Rattle.atom_reader.proofs.Atoms.{atom_place, atom_full, atom_not, atom_given}
 use Rattle.atom_reader.proofs.read_atom.Goals as goal
@@ -36,7 +37,7 @@ returns-in_err-read c ns b =
     rw none (atom_not ns _ c.args.end found (c.in_err-read.ensures ns (binds_noted b found.noted refl)))
 
 -- how many parameters there are, and how large they are
-few : (c : In_ok-read) → (c.in_ok-read.read.parameters < 256) × (c.in_ok-read.read.size < 200000)
+few : (c : In_ok-read) → (c.in_ok-read.read.parameters < 256) × (c.in_ok-read.read.size < code_reach)
 unfolding parameter_limit term_text_limit
 few c =
     let pre = c.requires.0 in
