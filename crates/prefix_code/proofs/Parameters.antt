@@ -10,6 +10,9 @@ use Rattle.definitions.specs.Prop.{PropParameter, Uninstantiated, Instantiated, 
 use Rattle.definitions.specs.Code.{u16, encode_parameter, encode_parameters, CodableParameter, CodableParameters}
 use Rattle.definitions.proofs.Readings.{Bytes}
 use Rattle.prefix_code.specs.Scan.{Stands, Ends, Several, parameter_coding, parameters_coding}
+use Rattle.prefix_code.specs.Shape.{kind_byte, kind_size}
+use Rattle.prefix_code.specs.declared.ParameterKind.{ParameterKind}
+use Rattle.prefix_code.specs.declared.ParameterKind.TheVariants as kinds
 use Rattle.prefix_code.proofs.Positions.{after, byte_stands, byte_at, number_stands, number_at_lem}
 use Rattle.prefix_code.proofs.Runs.{Run, no_ends}
 
@@ -76,6 +79,18 @@ module _ (names : ℕ) where
         let name = number_stands l (at + 1) (at + 3) (omega arith) bytes (omega arith) in
         let id = number_stands l (at + 3) (at + 5) (omega arith) bytes (omega arith) in
         ((below, omega (arith, bytes (at + 3), bytes (at + 3 + 1))), cc)
+
+    -- by its kind
+    pub kind_stands : (k : ParameterKind) → get_or l at 0 ≡ kind_byte k → at + kind_size k ≤ length l
+        → (p : PropParameter ℕ) × ParameterAt l at p (drop (at + kind_size k) l)
+    kind_stands kinds.Uninstantiated b h = (_, uninstantiated_stands h b)
+    kind_stands kinds.Instantiated b h = (_, instantiated_stands h b)
+
+  -- a parameter of a kind has its bytes
+  pub kind_bytes : {l : List ℕ} {at : ℕ} {p : PropParameter ℕ} {rest : List ℕ} → ParameterBytes l at p rest → (k : ParameterKind) → get_or l at 0 ≡ kind_byte k
+      → (at + kind_size k ≤ length l) × (drop (at + kind_size k) l ≡ rest)
+  kind_bytes b kinds.Uninstantiated is = (b.inside, (b.uninstantiated is).1)
+  kind_bytes b kinds.Instantiated is = let i = b.instantiated is in (i.1, i.2)
 
   -- the first of some parameters that stand at a position, and the others
   pub record FirstParameter (l : List ℕ) (at needed : ℕ) (ps : List (PropParameter ℕ)) (rest : List ℕ) : Type 0 where

@@ -51,6 +51,11 @@ abbrev pub kind_byte : ParameterKind → ℕ
 kind_byte Uninstantiated = 0
 kind_byte Instantiated = 1
 
+-- how many bytes a parameter has
+abbrev pub kind_size : ParameterKind → ℕ
+kind_size Uninstantiated = 3
+kind_size Instantiated = 5
+
 -- what each shape says of the proposition at a position
 pub data ShapeOf (names : ℕ) (code : List ℕ) (at : ℕ) : Shape → Type 0 where
   is_true : prop_at names code at ≡ proposition.True → ShapeOf names code at True

@@ -10,7 +10,7 @@ ghost use Rattle.definitions.specs.Admission.{is_none};
 ghost use Rattle.prefix_code.specs.Scan.{Ends, Scanned, parameter_coding, parameters_coding, shallow_coding};
 ghost use Rattle.prefix_code.specs.Head.{head_coding, parts_after};
 ghost use Rattle.prefix_code.specs.PropAt.{Present};
-ghost use Rattle.prefix_code.specs.Shape.{SomeProposition, kind_byte, meant, quantifier_meant, head_byte, ShapeOf};
+ghost use Rattle.prefix_code.specs.Shape.{SomeProposition, kind_byte, kind_size, meant, quantifier_meant, head_byte, ShapeOf};
 
 // An atom has at most so many parameters.
 pub const PARAMETER_LIMIT: u8 = 8;
@@ -42,8 +42,9 @@ pub const EXISTS: u8 = Quantifier::Exists as u8;
 // each use, here and in the crates above, would read `code.bytes`, for the count is only asked for where a number of a name has to be below
 // it. What a function promises of an end is one relation of its own coding, as `Ends (head_coding names) code.now at result`.
 
-// An end below is a position past the end of the code where nothing stands, and no Option: most callers know that something stands,
-// and use the end as it is, where each would have to unwrap it.
+// An end below is a position past the end of the code where nothing stands, and no Option: each of the seven calls of `head_end` and
+// `parameter_end` and of the eight calls of `scan` above knows that something stands, and would have to unwrap the end. Three loops here
+// and `is_deep` ask whether something does.
 
 // A parameter that a quantifier binds, and one with an id, each by the byte in front of its name.
 #[derive(Debug, Clone, Copy, PartialEq, Eq)]
@@ -78,6 +79,17 @@ impl ParameterKind {
     {
         self as u8
     }
+
+    // How many bytes a parameter of it has. Its name stands 1 and its id 3 bytes behind its start. Who reads them writes the two offsets: a
+    // view of a parameter would hold an id that prop::put_atom and are_instantiated of checkable ask for no more than for its size.
+    pub fn size(self) -> usize
+        ensures { result ≡ kind_size self }
+    {
+        match self {
+            ParameterKind::Uninstantiated => 3,
+            ParameterKind::Instantiated => 5,
+        }
+    }
 }
 
 // Where the parameter at `at` ends, and past the end of the code if none stands there.
@@ -95,14 +107,16 @@ pub fn parameter_end(code: &[u8], at: usize, names: usize) -> usize
     let Some(kind) = ParameterKind::of_byte(code[at]) else {
         return none;
     };
-    match kind {
-        ParameterKind::Uninstantiated => at + 3,
-        ParameterKind::Instantiated if 5 <= code.len() - at => at + 5,
-        ParameterKind::Instantiated => none,
+    let size = kind.size();
+    if code.len() - at < size {
+        return none;
     }
+    at + size
 }
 
-// Where so many parameters from `at` on end, and past the end of the code if fewer stand there.
+// Where so many parameters from `at` on end, and past the end of the code if fewer stand there. The place moves by hand here and in three
+// crates above: an iterator over parameters could serve prop::put_atom and renumbering's put_parameters alone, since here the bytes may be
+// no parameters, and alpha_eq answers where both lists end, which the parameters that an iterator hands out do not say.
 pub fn parameters_end(code: &[u8], at: usize, count: usize, names: usize) -> usize
     requires { at ≤ length code.now }
     ensures { Ends (parameters_coding names count) code.now at result }
