@@ -36,12 +36,7 @@ struct NamedCode<'a> {
 }
 
 // Two uninstantiated parameters, by the latest binding that has either: 19 where there is none.
-fn bound_alike(
-    bindings: &[Pair],
-    names: Marked,
-    x: usize,
-    y: usize,
-) -> Result<bool, Refusal>
+fn bound_alike(bindings: &[Pair], names: Marked, x: usize, y: usize) -> Result<bool, Refusal>
     requires bound { Bound names.pairs.now names.bytes.now bindings.now (length bindings.now) }
     requires name_within { NameWithin names.pairs.now names.bytes.now x × NameWithin names.pairs.now names.bytes.now y }
     ensures { outcome_of result
@@ -82,7 +77,7 @@ fn alpha_eq_parameter(named: &NamedCode, i: usize, j: usize, bindings: &[Pair]) 
     }
 }
 
-// So many parameters from i and from j on, gone through by hand, as in prop::put_atom.
+// So many parameters from i and from j on, gone through by hand: the answer is where both lists end, as prefix_code::parameters_end says.
 fn alpha_eq_parameters(
     named: &NamedCode,
     i: usize,
@@ -124,6 +119,8 @@ fn alpha_eq_atom(named: &NamedCode, i: usize, j: usize, bindings: &[Pair]) -> Co
     }
     alpha_eq_parameters(named, i + 4, j + 4, usize::from(count), bindings)
 }
+
+// Below, the bindings fill the memory `bindings` up to `depth`: memory of fixed size has no push, as prop_frames says.
 
 // The propositions of one connective at i and j: the left sides, and after a yes the right ones.
 #[cycle(alpha_eq_scope_alpha_eq_sides_alpha_eq_under)]

@@ -32,6 +32,7 @@ returns c =
     c.same_bytes-same_atom.ensures c.if-not-same_atom.false c.if-count-other_count.false
     (rw c.from.ensures at c.alpha_eq_parameters.ensures)
 
+-- The places are answered one by one: a lemma with the bounds of both atoms in `using` leaves all ten open.
 pub overflow_add-i : goal.overflow_add-i
 overflow_add-i c = omega (arith, atom_at c.requires.two.left)
 
