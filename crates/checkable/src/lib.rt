@@ -22,7 +22,7 @@ use proof_term::{Kind, Label, node_at, parts_at};
 
 // Code and the count of its names stand loose, as in prefix_code.
 
-// Whether each of so many parameters from `at` on is instantiated. As long as they are, each takes five bytes.
+// Whether each of so many parameters from `at` on is instantiated. As long as they are, each has the size of one.
 fn are_instantiated(code: &[u8], at: usize, count: usize) -> bool
     requires { SomeParameters count code.now at }
     ensures { (names : ℕ) (ps : List (PropParameter ℕ)) (rest : List ℕ)
@@ -30,7 +30,7 @@ fn are_instantiated(code: &[u8], at: usize, count: usize) -> bool
 {
     let instantiated = ParameterKind::Instantiated.byte();
     code[at..]
-        .chunks(5)
+        .chunks(ParameterKind::Instantiated.size())
         .take(count)
         .all(|parameter| parameter[0] == instantiated)
 }
@@ -54,8 +54,8 @@ pub fn is_quantifier_free(code: &[u8], names: usize) -> bool
     ensures { (p : Prop ℕ) → Codable names p → code.now ≡ encode p → result ≡ is_quantifier_free p }
 {
     let mut i = 0;
-    // A head's own bytes say where it ends, so the place moves by no fixed step. An iterator over heads would have to promise what
-    // prop_lists::next_entry tells.
+    // A head's own bytes say where it ends, so the place moves by no fixed step. An iterator over heads would have to keep the row of
+    // propositions that is left in a ghost field, as prop_lists::next_entry tells.
     while i < code.len() {
         if !is_plain_head(code, i) {
             return false;
