@@ -56,9 +56,10 @@ fn next_head(code: &[u8], at: usize, end: usize, names: usize, list: TermList) -
     i
 }
 
-// The next entry at or after `at`, before `end`, if there is one: an atom's name and count stand behind its byte, a datatype's name behind the
-// object's. The walk keeps its position itself: a step of an iterator would have to promise that code, end, names and list stay and
-// that a row stands at the new position, which the invariant of the walk says in a line.
+// The next entry at or after `at`, before `end`, if there is one: an atom's name and count stand behind its byte, a datatype's name behind
+// the object's. The walk keeps its position itself. As an iterator over `entries_from` all of its `next` is proved but what this function
+// requires: a ghost field keeps a fact that has one proof, and `Row` holds propositions. It would take laws that `Codable` has one proof,
+// and, for the loop, that each entry of a row is in bounds, which `GivesEntry` says of the one at hand.
 fn next_entry(code: &[u8], at: usize, end: usize, names: usize, list: TermList) -> Option<Entry>
     requires { Row names code.now at end }
     ensures { GivesEntry names list code.now at end result }
