@@ -63,16 +63,19 @@ fn alpha_eq_parameter(named: &NamedCode, i: usize, j: usize, bindings: &[Pair]) 
     }
     let x = number_at(named.code, i + 1);
     let y = number_at(named.code, j + 1);
-    match ParameterKind::of_known(byte) {
+    let kind = ParameterKind::of_known(byte);
+    let size = kind.size();
+    let ends = (i + size, j + size);
+    match kind {
         ParameterKind::Uninstantiated => {
             let same = bound_alike(bindings, named.names, x, y)?;
-            Ok(same.then_some((i + 3, j + 3)))
+            Ok(same.then_some(ends))
         }
         ParameterKind::Instantiated => {
             let same_object = same_bytes(named.names, x, y);
             let id = number_at(named.code, i + 3);
             let other_id = number_at(named.code, j + 3);
-            Ok((same_object && id == other_id).then_some((i + 5, j + 5)))
+            Ok((same_object && id == other_id).then_some(ends))
         }
     }
 }

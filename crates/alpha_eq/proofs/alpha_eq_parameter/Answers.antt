@@ -7,7 +7,8 @@ use lib.ListN.{length, get_or}
 use lib.Dec.{eqb}
 use Rattle.alpha_eq.specs.Comparing.{compared}
 use Rattle.alpha_eq.proofs.Parameters.{parameter_at, id_at, names_within}
-use Rattle.prefix_code.specs.Shape.{kind_byte}
+use Rattle.prefix_code.specs.Shape.{kind_byte, kind_size}
+use Rattle.prefix_code.proofs.Parameters.{kind_bytes}
 use Rattle.std.proofs.Common.{rules}
 use Rattle.alpha_eq.proofs.Outcomes.{tested}
 use Rattle.alpha_eq.proofs.Parameters.{other_kind, uninstantiated_both, instantiated_both}
@@ -16,7 +17,7 @@ use Rattle.alpha_eq.proofs.alpha_eq_parameter.Goals.{After-then_some-in-Instanti
 
 -- the byte in front of both is the kind's
 left_kind : (c : In-Instantiated) → get_or c.args.named.now.code.now c.args.i 0 ≡ 1
-left_kind c = c.of_known.ensures ∙ ap kind_byte c.in-Instantiated.is
+left_kind c = c.of_known-kind.ensures ∙ ap kind_byte c.in-Instantiated.is
 
 right_kind : (c : In-Instantiated) → get_or c.args.named.now.code.now c.args.j 0 ≡ 1
 right_kind c = omega (arith, left_kind c, c.if-byte-named.false)
@@ -28,7 +29,7 @@ right_id : (c : In-Instantiated) → let s = c.args in s.j + 5 ≤ length s.name
 right_id c = id_at c.requires.two.right (right_kind c)
 
 bound : (c : In-Uninstantiated) → get_or c.args.named.now.code.now c.args.i 0 ≡ 0
-bound c = c.of_known.ensures ∙ ap kind_byte c.in-Uninstantiated.is
+bound c = c.of_known-kind.ensures ∙ ap kind_byte c.in-Uninstantiated.is
 
 -- the names and the ids are compared
 alike : (c : After-then_some-in-Instantiated)
@@ -50,7 +51,7 @@ pub returns-in_ok-same-in-Uninstantiated : goal.returns-in_ok-same-in-Uninstanti
 returns-in_ok-same-in-Uninstantiated c =
     let zero = bound (goal.at.returns-in_ok-same-in-Uninstantiated c).In-Uninstantiated in
     uninstantiated_both _ _ _ _ _ _ _ zero (omega (arith, zero, c.if-byte-named.false)) c.number_at-x.ensures.0 c.number_at-y.ensures.0 c.in_ok-same-in-Uninstantiated.ensures
-    (rw c.then_some.ensures (tested _ _ _))
+    (rw (c.then_some.ensures, c.size-size.ensures ∙ ap kind_size (goal.at.returns-in_ok-same-in-Uninstantiated c).In-Uninstantiated.in-Uninstantiated.is) (tested _ _ _))
 
 pub same_bytes-same_object-requires : goal.same_bytes-same_object-requires
 same_bytes-same_object-requires c =
@@ -77,30 +78,26 @@ overflow_add-j c = omega (arith, parameter_at c.requires.two.right)
 pub number_at-y-requires : goal.number_at-y-requires
 number_at-y-requires c = omega (arith, parameter_at c.requires.two.right)
 
-pub overflow_add-i-in-Uninstantiated : goal.overflow_add-i-in-Uninstantiated
-overflow_add-i-in-Uninstantiated c = omega (arith, parameter_at c.requires.two.left)
-
-pub overflow_add-j-in-Uninstantiated : goal.overflow_add-j-in-Uninstantiated
-overflow_add-j-in-Uninstantiated c = omega (arith, parameter_at c.requires.two.right)
-
-pub overflow_add-i-in-Instantiated : goal.overflow_add-i-in-Instantiated
-overflow_add-i-in-Instantiated c = omega (arith, left_id (goal.at.overflow_add-i-in-Instantiated c).In-Instantiated)
-
 pub number_at-id-requires : goal.number_at-id-requires
 number_at-id-requires c = omega (arith, left_id (goal.at.number_at-id-requires c).In-Instantiated)
-
-pub overflow_add-j-in-Instantiated : goal.overflow_add-j-in-Instantiated
-overflow_add-j-in-Instantiated c = omega (arith, right_id (goal.at.overflow_add-j-in-Instantiated c).In-Instantiated)
 
 pub number_at-other_id-requires : goal.number_at-other_id-requires
 number_at-other_id-requires c = omega (arith, right_id (goal.at.number_at-other_id-requires c).In-Instantiated)
 
-pub of_known-requires : goal.of_known-requires
-of_known-requires c = omega (arith, (parameter_at c.requires.two.left).kind)
+pub of_known-kind-requires : goal.of_known-kind-requires
+of_known-kind-requires c = omega (arith, (parameter_at c.requires.two.left).kind)
 
 pub returns-after-same_object : goal.returns-after-same_object
 returns-after-same_object c =
     let here = (goal.at.returns-after-same_object c).In-Instantiated in
     instantiated_both _ _ _ _ _ _ _ (left_kind here) (right_kind here) c.number_at-x.ensures.0 c.number_at-y.ensures.0
     c.number_at-id.ensures.0 c.number_at-other_id.ensures.0 c.same_bytes-same_object.ensures
-    (rw (c.then_some-in-Instantiated.ensures, alike (goal.at.returns-after-same_object c).After-then_some-in-Instantiated) (tested _ _ _))
+    (rw (c.then_some-in-Instantiated.ensures, alike (goal.at.returns-after-same_object c).After-then_some-in-Instantiated, c.size-size.ensures ∙ ap kind_size here.in-Instantiated.is) (tested _ _ _))
+
+pub overflow_add-ends : goal.overflow_add-ends
+overflow_add-ends c = omega (arith, (kind_bytes _ (parameter_at c.requires.two.left) _ c.of_known-kind.ensures).0, c.size-size.ensures)
+
+pub overflow_add-ends-2 : goal.overflow_add-ends-2
+overflow_add-ends-2 c =
+    let byte : get_or c.args.named.now.code.now c.args.j 0 ≡ kind_byte c.of_known-kind.result = omega (arith, c.of_known-kind.ensures, c.if-byte-named.false) in
+    omega (arith, (kind_bytes _ (parameter_at c.requires.two.right) _ byte).0, c.size-size.ensures)
