@@ -80,8 +80,8 @@ impl ParameterKind {
         self as u8
     }
 
-    // How many bytes a parameter of it has. Its name stands 1 and its id 3 bytes behind its start. Who reads them writes the two offsets: a
-    // view of a parameter would hold an id that prop::put_atom and are_instantiated of checkable ask for no more than for its size.
+    // How many bytes a parameter of it has. Its name stands 1 and its id 3 bytes behind its start. Who reads them writes the two offsets: of
+    // a view with both, prop::put_atom would use the name alone, and are_instantiated of checkable neither.
     pub fn size(self) -> usize
         ensures { result ≡ kind_size self }
     {
