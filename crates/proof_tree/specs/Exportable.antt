@@ -6,6 +6,7 @@ use Rattle.definitions.specs.Tree.{rules}
 use Rattle.definitions.specs.Admission.{is_none}
 use Rattle.steps.specs.Records.{HasStep}
 use Rattle.steps.specs.Tables.{SizeTable}
+use Rattle.steps.specs.declared.Conclusion.{Conclusion}
 use Rattle.steps.specs.declared.Conclusion.TheVariants.{PropIsTrue}
 use Rattle.steps.specs.StepAt.{step_at}
 
@@ -13,6 +14,11 @@ use Rattle.steps.specs.StepAt.{step_at}
 pub record Coded (names : ℕ) (pairs code : List ℕ) (i : ℕ) : Type 0 where
   pub there : pair_size * (i + 1) ≤ length pairs
   pub decoded : is_none (decode names (marked pairs code i)) ≡ false
+
+-- the proposition that is concluded, if one is, has a code, and an offset of the code fits a u16
+pub record Stated (names : ℕ) (pairs code : List ℕ) (c : Conclusion) : Type 0 where
+  pub coded : (p : ℕ) → c ≡ PropIsTrue p → Coded names pairs code p
+  pub short : length code < 65536
 
 -- the records have step k, with a rule; the proposition that it concludes, if it concludes one, has a code; and the number of
 -- the step and an offset of the code fit a u16

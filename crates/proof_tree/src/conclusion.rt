@@ -1,8 +1,9 @@
-// A step's conclusion, as it is taken apart for a label: by the pairs and the code alone, of which `Readable` says once what is asked.
-ghost use Rattle.std.specs.Prelude.{ℕ, ◌<◌, ◌≡◌};
+// A step's conclusion, as it is taken apart for a label.
+ghost use Rattle.std.specs.Prelude.{ℕ, ◌<◌, ◌≡◌, get_or};
 ghost use Rattle.definitions.specs.Reason.{number_of};
 ghost use Rattle.proof_tree.specs.Table.{ending_of};
-ghost use Rattle.proof_tree.specs.Opening.{Paired, Readable, offset_of};
+ghost use Rattle.proof_tree.specs.Opening.{offset_of};
+ghost use Rattle.proof_tree.specs.Exportable.{Stated};
 ghost use Rattle.proof_tree.specs.Labelling.{left_label_of, datatype_label_of, parameter_label_of, label_or, AnnotationOf};
 
 use crate::table::Ending;
@@ -12,50 +13,6 @@ use prefix_code::{Connective, Quantifier, Shape, shape_at};
 use proof_term::Label;
 use steps::Conclusion;
 
-// The offset of the proposition of a conclusion, if it has one.
-pub fn proposition_at(pairs: &[u8], conclusion: Conclusion) -> Option<usize>
-    requires { Paired pairs.now conclusion }
-    ensures { result ≡ offset_of pairs.now conclusion }
-{
-    let Conclusion::PropIsTrue(p) = conclusion else {
-        return None;
-    };
-    Some(pair_offset(pairs, p as usize))
-}
-
-// The left side of an implication, if the conclusion is one.
-fn left_label(pairs: &[u8], code: &[u8], conclusion: Conclusion) -> Option<Label>
-    requires { Readable pairs.now code.now conclusion }
-    ensures { (k : ℕ) → AnnotationOf (left_label_of k) pairs.now code.now conclusion (label_or 14 k result) }
-{
-    let at = proposition_at(pairs, conclusion)?;
-    let Shape::Binary {
-        connective: Connective::Impl,
-        left,
-    } = shape_at(code, at)
-    else {
-        return None;
-    };
-    Some(Label::Proposition(left as u16))
-}
-
-// The datatype of a ∀, if the conclusion is one.
-fn datatype_label(pairs: &[u8], code: &[u8], conclusion: Conclusion) -> Option<Label>
-    requires { Readable pairs.now code.now conclusion }
-    ensures { (k : ℕ) → AnnotationOf (datatype_label_of k) pairs.now code.now conclusion (label_or 15 k result) }
-{
-    let at = proposition_at(pairs, conclusion)?;
-    let Shape::Quantified {
-        quantifier: Quantifier::ForAll,
-        datatype,
-        ..
-    } = shape_at(code, at)
-    else {
-        return None;
-    };
-    Some(Label::Datatype(datatype as u16))
-}
-
 // A label that step k must have, or its refusal.
 fn or_refusal(label: Option<Label>, reason: Reason, k: usize) -> Result<Option<Label>, Refusal>
     requires { k < 65536 }
@@ -64,29 +21,71 @@ fn or_refusal(label: Option<Label>, reason: Reason, k: usize) -> Result<Option<L
     Ok(Some(label.ok_or(reason.at(k))?))
 }
 
-// The label of the parameter of a function that step k makes, with that ending and conclusion.
-pub fn annotation_of(
-    pairs: &[u8],
-    code: &[u8],
-    ending: Ending,
-    conclusion: Conclusion,
-    k: usize,
-) -> Result<Option<Label>, Refusal>
-    requires { (k < 65536) × Readable pairs.now code.now conclusion }
-    ensures { AnnotationOf (parameter_label_of (ending_of ending) k)
-        pairs.now code.now conclusion result }
-{
-    match ending {
-        Ending::LeftLabelled => or_refusal(
-            left_label(pairs, code, conclusion),
-            Reason::NoImplication,
-            k,
-        ),
-        Ending::DatatypeLabelled => or_refusal(
-            datatype_label(pairs, code, conclusion),
-            Reason::NoUniversal,
-            k,
-        ),
-        Ending::Bare | Ending::Ascribed | Ending::PremissOwn => Ok(None),
+// A conclusion with the pairs and the code, over so many names, that its proposition stands in.
+#[derive(Clone, Copy)]
+pub struct StatedConclusion<'a> {
+    pub names: usize,
+    pub pairs: &'a [u8],
+    pub code: &'a [u8],
+    pub conclusion: Conclusion,
+    // A proof knows this of a parameter, and of a field where the struct says it.
+    pub ghost bytes: { (i : ℕ) → get_or code.now i 0 < 256 },
+    pub ghost stated: { Stated names pairs.now code.now conclusion },
+}
+
+impl StatedConclusion<'_> {
+    // The offset of its proposition, if it has one.
+    #[tactic(auto, using(crate::proofs::Concluding::opens))]
+    pub fn proposition_at(&self) -> Option<usize>
+        ensures { result ≡ offset_of self.now.pairs.now self.now.conclusion }
+    {
+        let Conclusion::PropIsTrue(p) = self.conclusion else {
+            return None;
+        };
+        Some(pair_offset(self.pairs, p as usize))
+    }
+
+    // Its left side, if it is an implication.
+    fn left_label(&self) -> Option<Label>
+        ensures { (k : ℕ) → AnnotationOf (left_label_of k) self.now.pairs.now self.now.code.now self.now.conclusion (label_or 14 k result) }
+    {
+        let at = self.proposition_at()?;
+        let Shape::Binary {
+            connective: Connective::Impl,
+            left,
+        } = shape_at(self.code, at)
+        else {
+            return None;
+        };
+        Some(Label::Proposition(left as u16))
+    }
+
+    // Its datatype, if it is a ∀.
+    fn datatype_label(&self) -> Option<Label>
+        ensures { (k : ℕ) → AnnotationOf (datatype_label_of k) self.now.pairs.now self.now.code.now self.now.conclusion (label_or 15 k result) }
+    {
+        let at = self.proposition_at()?;
+        let Shape::Quantified {
+            quantifier: Quantifier::ForAll,
+            datatype,
+            ..
+        } = shape_at(self.code, at)
+        else {
+            return None;
+        };
+        Some(Label::Datatype(datatype as u16))
+    }
+
+    // The label of the parameter of a function that step k makes, with that ending and this conclusion.
+    pub fn annotation(&self, ending: Ending, k: usize) -> Result<Option<Label>, Refusal>
+        requires { k < 65536 }
+        ensures { AnnotationOf (parameter_label_of (ending_of ending) k)
+            self.now.pairs.now self.now.code.now self.now.conclusion result }
+    {
+        match ending {
+            Ending::LeftLabelled => or_refusal(self.left_label(), Reason::NoImplication, k),
+            Ending::DatatypeLabelled => or_refusal(self.datatype_label(), Reason::NoUniversal, k),
+            Ending::Bare | Ending::Ascribed | Ending::PremissOwn => Ok(None),
+        }
     }
 }

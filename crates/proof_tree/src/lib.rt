@@ -13,17 +13,16 @@ ghost use Rattle.definitions.specs.Export.{checking};
 ghost use Rattle.proof_term.specs.Making.{Room};
 ghost use Rattle.proof_term.specs.InPlace.{InPlace};
 ghost use Rattle.proof_tree.specs.Table.{mode_of, ending_of, TableRow};
-ghost use Rattle.proof_tree.specs.Opening.{Paired};
 ghost use Rattle.proof_tree.specs.Labelling.{ending_at};
 ghost use Rattle.proof_tree.specs.Terms.{Parts, first_three};
 ghost use Rattle.proof_tree.specs.Exporting.{RoomFor, PlacedIn, Exported, ExportedIn};
 ghost use Rattle.proof_tree.specs.Wrapping.{WrappedIn};
 
-use conclusion::{annotation_of, proposition_at};
+use conclusion::StatedConclusion;
 use definitions::{Reason, Refusal};
 use proof_term::{Label, Node, TermRecords};
 use step::premiss;
-use steps::{Conclusion, premiss_count, rule_byte, step_at};
+use steps::{premiss_count, rule_byte, step_at};
 pub use table::ReasoningMode;
 use table::{Ending, Row, row_of};
 use term::rule_term;
@@ -31,16 +30,14 @@ pub use walked_steps::WalkedSteps;
 
 // Ascribes the newest term with the conclusion of its step k.
 fn wrap_into_type_ascription(
-    pairs: &[u8],
-    conclusion: Conclusion,
+    conclusion: &StatedConclusion,
     k: usize,
     terms: &mut TermRecords,
 ) -> Result<(), Refusal>
-    requires { (k < 65536) × Room terms.old.numbers.now terms.old.used × (0 < terms.old.used)
-        × Paired pairs.now conclusion }
-    ensures { InPlace (WrappedIn pairs.now k conclusion result) terms.old terms.new }
+    requires { (k < 65536) × Room terms.old.numbers.now terms.old.used × (0 < terms.old.used) }
+    ensures { InPlace (WrappedIn conclusion.now.pairs.now k conclusion.now.conclusion result) terms.old terms.new }
 {
-    let Some(at) = proposition_at(pairs, conclusion) else {
+    let Some(at) = conclusion.proposition_at() else {
         return Err(Reason::AscribedJudgement.at(k));
     };
     let ascription = Node::TypeAscription {
@@ -78,23 +75,22 @@ fn placed_term(
     ensures { InPlace (PlacedIn steps.now k (mode_of mode) row.fewest (first_three parts) result)
         terms.old terms.new }
 {
-    let WalkedSteps {
-        pairs,
-        code,
-        records,
-        ..
-    } = *steps;
     let ending = ending_in(mode, row.ending);
-    let step = step_at(records, k);
-    let conclusion = step.conclusion;
-    let label = annotation_of(pairs, code, ending, conclusion, k)?;
+    let step = step_at(steps.records, k);
+    let conclusion = StatedConclusion {
+        names: steps.names,
+        pairs: steps.pairs,
+        code: steps.code,
+        conclusion: step.conclusion,
+    };
+    let label = conclusion.annotation(ending, k)?;
     let first = step.first.name;
     let second = step.second.name;
     rule_term(row.term, first, second, label, parts, terms);
     let Ending::Ascribed = ending else {
         return Ok(());
     };
-    wrap_into_type_ascription(pairs, conclusion, k, terms)
+    wrap_into_type_ascription(&conclusion, k, terms)
 }
 
 // The term of step k in its mode: its premisses are counted on entering it and come next, in order; its conclusion comes last.

@@ -5,7 +5,7 @@ use native.Mathlib.Omega.{arith}
 use borrow.Author.Rules.{rules}
 use Rattle.proof_tree.specs.Exportable.{GoodStep}
 use Rattle.proof_tree.specs.Labelling.{LabelOf}
-use Rattle.proof_tree.proofs.Concluding.{means, readable}
+use Rattle.proof_tree.proofs.Concluding.{means, stated}
 use Rattle.proof_tree.proofs.Placing.{Visited, concluded, label, label_of, label_refused, counted_refused, term_answer, ascription, ascribed_answer}
 use Rattle.proof_tree.proofs.placed_term.Goals as goal
 use Rattle.proof_tree.proofs.placed_term.Goals.{After-step_at-step, In_ok-label}
@@ -33,9 +33,13 @@ its_label c good =
 pub step_at-step-requires : goal.step_at-step-requires
 step_at-step-requires c = (c.args.steps.now.exportable.good _ c.requires.k_in_bounds).whole
 
-pub annotation_of-requires : goal.annotation_of-requires
-annotation_of-requires c =
-    let v = visited c (c.args.steps.now.exportable.good _ c.requires.k_in_bounds) in (v.good.few, readable v.good v.bytes (concluded v))
+pub invariant_of-conclusion : goal.invariant_of-conclusion
+invariant_of-conclusion c =
+    let v = visited (goal.at.invariant_of-conclusion c).After-step_at-step (c.args.steps.now.exportable.good _ c.requires.k_in_bounds) in
+    record { bytes = v.bytes; stated = stated v.good v.bytes (concluded v) }
+
+pub annotation-requires : goal.annotation-requires
+annotation-requires c = (c.args.steps.now.exportable.good _ c.requires.k_in_bounds).few
 
 pub rule_term-requires : goal.rule_term-requires
 rule_term-requires c =
@@ -61,7 +65,6 @@ wrap_into_type_ascription-requires c =
       v.good.few,
       record { room = omega (arith, made.few, room.room, same); few = omega (arith, made.few, room.few) },
       made.some_record,
-      (readable v.good v.bytes (concluded v)).paired,
     )
 
 pub returns-in_err-label : goal.returns-in_err-label

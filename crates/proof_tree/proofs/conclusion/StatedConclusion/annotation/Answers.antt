@@ -2,7 +2,7 @@
 use Rattle.proof_tree.specs.Table.{ending_of}
 use Rattle.proof_tree.specs.Labelling.{parameter_label_of}
 use Rattle.proof_tree.proofs.Annotations.{unlabelled}
-use Rattle.proof_tree.proofs.conclusion.annotation_of.Goals as goal
+use Rattle.proof_tree.proofs.conclusion.StatedConclusion.annotation.Goals as goal
 
 pub returns-in-LeftLabelled : goal.returns-in-LeftLabelled
 unfolding parameter_label_of ending_of

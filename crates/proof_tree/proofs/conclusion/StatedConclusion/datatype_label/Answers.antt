@@ -3,12 +3,16 @@ use mathlib.Core.Path.{refl, sym, ◌∙◌}
 use native.Mathlib.Omega.{arith}
 use borrow.Author.Rules.{rules}
 use borrow.Author.Tests.{tests}
+use Rattle.proof_tree.proofs.Concluding.{opens, stands_at}
 use Rattle.proof_tree.proofs.Annotations.{Opened, opened, no_datatype_judged, no_datatype, datatype, datatype_small}
-use Rattle.proof_tree.proofs.conclusion.datatype_label.Goals as goal
-use Rattle.proof_tree.proofs.conclusion.datatype_label.Goals.{After-shape_at}
+use Rattle.proof_tree.proofs.conclusion.StatedConclusion.datatype_label.Goals as goal
+use Rattle.proof_tree.proofs.conclusion.StatedConclusion.datatype_label.Goals.{After-shape_at}
 
-its : (c : After-shape_at) → let s = c.args in Opened s.pairs.now s.code.now s.conclusion c.shape_at.result
-its c = opened c.args.conclusion (sym c.proposition_at.ensures ∙ c.in_ok-at.was) c.shape_at.ensures
+its : (c : After-shape_at) → let s = c.args.self.now in Opened s.pairs.now s.code.now s.conclusion c.shape_at.result
+its c = opened c.args.self.now.conclusion (sym c.proposition_at.ensures ∙ c.in_ok-at.was) c.shape_at.ensures
+
+pub shape_at-requires : goal.shape_at-requires
+shape_at-requires c = stands_at c.args.self.now (sym c.proposition_at.ensures ∙ c.in_ok-at.was)
 
 pub returns-in_err-at : goal.returns-in_err-at
 returns-in_err-at c k names m means =
@@ -22,7 +26,7 @@ returns-in_default-2 c k names m means = no_datatype means (its (goal.at.returns
 
 pub overflow_cast-result : goal.overflow_cast-result
 overflow_cast-result c =
-    record { fits = datatype_small c.requires (its (goal.at.overflow_cast-result c).After-shape_at) (λ i. omega (arith, c.type_inv.code i)) c.in-Quantified-ForAll-default-default-default.is }
+    record { fits = datatype_small (opens c.args.self.now) (its (goal.at.overflow_cast-result c).After-shape_at) (λ i. omega (arith, c.args.self.now.bytes i)) c.in-Quantified-ForAll-default-default-default.is }
 
 pub returns : goal.returns
 returns c k names m means =
