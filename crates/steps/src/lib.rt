@@ -58,8 +58,8 @@ pub struct Step {
     pub column: u16,
 }
 
-// The readers of one step. Each caller reads one or two fields of it, so a call names the records and the step: with a public
-// `StepRecord` the same two would be named in a literal, and the same fact shown of them there.
+// The readers of one step. A function calls one or two of them for a step: with a public `StepRecord` it would name the same records
+// and step in a literal, and show the same fact of them there.
 
 // The byte of the rule of step k.
 pub fn rule_byte(step_records: &[u8], k: usize) -> u8
