@@ -3,7 +3,8 @@ ghost use Rattle.std.specs.Prelude.{ℕ, ◌<◌, get_or};
 ghost use Rattle.proof_tree.specs.Exportable.{Exportable};
 
 // The pairs and the code of the steps' propositions over so many names, the records of the steps, and the sizes of their trees. The
-// steps are no `SizedSteps`: that holds no more of them than a sheet may have, and the walk asks for no limit but room.
+// steps are no `SizedSteps`: that has at most 1,024 of them, and the walk, which asks only that their numbers fit a u16, as the offsets
+// of the code do, may not ask its callers for fewer.
 #[derive(Clone, Copy)]
 pub struct WalkedSteps<'a> {
     pub names: usize,
