@@ -31,7 +31,8 @@ pub fn first_bad_pair(pairs: &[u8], count: usize, bytes: usize, longest: usize) 
     None
 }
 
-// Refusal 5: the lowest name with a byte that its position does not allow.
+// Refusal 5: the lowest name with a byte that its position does not allow. What this search and the two below ask for is what the stage
+// before each has shown of the pairs. A `HeadedSheet` knows its header alone, so as its methods they would ask for the same.
 #[tactic(auto, unfolding(definitions::specs::Admission::bad_name))]
 pub fn first_bad_name(pairs: &[u8], text: &[u8], count: usize) -> Option<usize>
     requires { HasPairs pairs.now text.now count }
