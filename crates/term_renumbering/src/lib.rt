@@ -8,8 +8,8 @@ ghost use Rattle.term_renumbering.specs.Over.{is_name, number_over, Over, Record
 
 use proof_term::{DATATYPE, Kind, RECORD_SIZE, field, kind_at};
 
-// Whether number `i` of a record of a kind is a name, by the kind of its label: a label's number is one if it is a datatype. The kind of
-// a label is read as a number here, since it stands among the numbers that are renumbered in place.
+// Whether number `i` of a record of a kind is a name, by the kind of its label: a label's number is one if it is a datatype. A record is
+// no `Node` here, whose `numbers` are 0 where its kind has none: whatever a record holds, each number that is no name stays as it is.
 #[tactic(auto, unfolding(crate::specs::Over::is_name))]
 fn is_name(kind: Kind, label: usize, i: usize) -> bool
     ensures { result ≡ is_name kind label i }
