@@ -5,6 +5,7 @@ use mathlib.Core.Logic.{by_cases}
 use Rattle.std.specs.Prelude.{Option, None, Some, Result, Ok, Err, ℕ}
 use mathlib.Core.List.{List, [], ◌∷◌}
 use native.Mathlib.Omega.{arith}
+use lib.ListN.{length}
 use native.Mathlib.Decide.{dec_lt}
 use Rattle.definitions.specs.Outcome.{Outcome, accepted, refused, refuse, ◌>>=◌, map_outcome}
 use Rattle.definitions.specs.declared.Refusal.{Refusal}
@@ -165,7 +166,7 @@ module _ {names : ℕ} {pairs code records : List ℕ} {k : ℕ} {mode : own.Rea
   -- The rule's term, with its label.
   module _ {own-l : Option own-label.Label} {first second third used next : ℕ} {before after : List ℕ} (l : LabelOf names pairs code c label own-l) (made : MadeTerm row.term z.first.name z.second.name own-l first second third before used after next) where
     abbrev pub parts : (ℕ → Prop ℕ) → List (ProofTerm ℕ)
-    parts props = part_terms (term_at props before) row.fewest (first ∷ second ∷ third ∷ [])
+    parts props = part_terms (term_at props before) (length row.modes.now) (first ∷ second ∷ third ∷ [])
 
     abbrev pub ts : List (ProofTerm ℕ)
     ts = parts (prop_at names code)
@@ -184,7 +185,7 @@ module _ {names : ℕ} {pairs code records : List ℕ} {k : ℕ} {mode : own.Rea
     labels m offset h i has = left_offset v.good v.bytes concluded offset (l.left offset (made.labels m offset h i has))
 
     pub term_answer : (e ≡ Ascribed → ⊥)
-        → Answered names pairs code records k (placed ts) before used parts (used + 1 - row.fewest) (used + 2) after (Ok next)
+        → Answered names pairs code records k (placed ts) before used parts (used + 1 - length row.modes.now) (used + 2) after (Ok next)
     term_answer other =
         gives {next = next} (record {
           holds = placed_term_lem ∙ unascribed e (step_in names pairs code records k) (term_at (prop_at names code) after (next - 1)) other;
@@ -207,7 +208,7 @@ module _ {names : ℕ} {pairs code records : List ℕ} {k : ℕ} {mode : own.Rea
         rw (same_number offset (pair_offset pairs p) number) (whole_offset v.good v.bytes concluded p hc))
 
     pub ascribed_answer : {final : List ℕ} {r : Result ℕ Refusal} → e ≡ Ascribed → Ascription names pairs code k c (conclusion_in names pairs code records k) after next final r
-        → Answered names pairs code records k (placed ts) before used parts (used + 1 - row.fewest) (used + 2) final r
+        → Answered names pairs code records k (placed ts) before used parts (used + 1 - length row.modes.now) (used + 2) final r
     unfolding finishing ending_of step_in ascription_label ◌>>=◌ refuse
     ascribed_answer {final} he (is_refused {r = r} none13 is) = refuses {r = r} (placed_term_lem ∙ rw (he, none13, is))
     ascribed_answer {final} he (is_ascribed {next = last} hc is more) =

@@ -6,7 +6,7 @@ use mathlib.Core.List.{List, [], ◌∷◌, ◌++◌, map, append_assoc, append-
 use native.Mathlib.Omega.{arith}
 use native.Mathlib.Decide.{dec_lt}
 use native.Mathlib.Numerals.{add-one}
-use lib.ListN.{length, get_or, take, drop, set, length-set, length-map, length-take, drop_of_length-le, get_or-map}
+use lib.ListN.{length, get_or, take, drop, set, length-set, length-map, drop_of_length-le, get_or-map}
 use lib.Seq.{take-suc-set, drop-cons, get_or-set_same, get_or-set_other}
 use borrow.Author.Count.{below_more}
 use Rattle.definitions.specs.Outcome.{Outcome, accepted, refused, ◌>>=◌}
@@ -99,7 +99,7 @@ module _ {pairs code records : List ℕ} {k : ℕ} where
 
 -- the premisses from position i on are still to be read: what those before them gave is held by the parts
 pub record PremissesRead (names : ℕ) (pairs code records : List ℕ) (k : ℕ) (mode : Place) (row : Row) (before : List ℕ) (used i : ℕ) (parts terms : List ℕ) (next : ℕ) : Type 0 where
-  pub position : i ≤ row.fewest
+  pub position : i ≤ length row.modes.now
   pub three : length parts ≡ 3
   pub left : export_all (premisses_from names pairs code records k 0) (places (rule_in records k) mode)
       ≡ (export_all (premisses_from names pairs code records k i) (drop i (places (rule_in records k) mode)) >>= λ ts. accepted (part_terms (term_at (prop_at names code) terms) i parts ++ ts))
@@ -131,13 +131,12 @@ read_none names pairs code records k mode row terms used =
 
 module _ {names : ℕ} {pairs code records : List ℕ} {k : ℕ} {mode : Place} {row : Row} {before : List ℕ} {used i : ℕ} {parts terms : List ℕ} {next : ℕ} (is_row : TableRow (rule_in records k) row) (read : PremissesRead names pairs code records k mode row before used i parts terms next) where
   -- The premiss of position i, which step q finishes, in its mode m.
-  module _ {q : ℕ} {m : Place} (h : i < row.fewest) (p : PremissStep records k i q) (in-mode : m ≡ premiss_mode mode (get_or (take row.fewest row.modes) i Own)) where
+  module _ {q : ℕ} {m : Place} (h : i < length row.modes.now) (p : PremissStep records k i q) (in-mode : m ≡ premiss_mode mode (get_or row.modes.now i Own)) where
     next_mode : drop i (places (rule_in records k) mode) ≡ m ∷ drop (i + 1) (places (rule_in records k) mode)
     next_mode =
-        let l = map (premiss_mode mode) (take row.fewest row.modes) in
-        let long : i < length l = rw (length-map (take row.fewest row.modes) (premiss_mode mode), length-take) (omega (arith, is_row.few, is_row.three)) in
-        let here : get_or l i (premiss_mode mode Own) ≡ m =
-        get_or-map (premiss_mode mode) (take row.fewest row.modes) i Own ∙ sym in-mode in
+        let l = map (premiss_mode mode) row.modes.now in
+        let long : i < length l = rw (length-map row.modes.now (premiss_mode mode)) h in
+        let here : get_or l i (premiss_mode mode Own) ≡ m = get_or-map (premiss_mode mode) row.modes.now i Own ∙ sym in-mode in
         rw (← (is_row.modes_are mode), add-one) (drop-cons l i (premiss_mode mode Own) long ∙ ap (λ n. n ∷ drop (suc i) l) here)
 
     tree : ProofTree ℕ
@@ -199,21 +198,21 @@ module _ {names : ℕ} {pairs code records : List ℕ} {k : ℕ} {mode : Place} 
           }
 
   -- all that are read have been
-  pub read_all : i ≡ row.fewest → export_all (premisses_from names pairs code records k 0) (places (rule_in records k) mode) ≡ accepted (part_terms (term_at (prop_at names code) terms) row.fewest (first_three parts))
+  pub read_all : i ≡ length row.modes.now → export_all (premisses_from names pairs code records k 0) (places (rule_in records k) mode) ≡ accepted (part_terms (term_at (prop_at names code) terms) (length row.modes.now) (first_three parts))
   unfolding ◌>>=◌
   read_all e =
-      let l = map (premiss_mode mode) (take row.fewest row.modes) in
-      let long : length l ≤ i = rw (length-map (take row.fewest row.modes) (premiss_mode mode), length-take) (omega arith) in
+      let l = map (premiss_mode mode) row.modes.now in
+      let long : length l ≤ i = rw (length-map row.modes.now (premiss_mode mode)) (omega arith) in
       let over : drop i (places (rule_in records k) mode) ≡ [] = rw (← (is_row.modes_are mode)) (drop_of_length-le l long) in
       read.left ∙ rw (over, no_modes, append-nil, e, ← (three_parts parts read.three))
 
   -- the parts of the step's term are earlier records, and there is room for two more
-  pub read_parts : i ≡ row.fewest → record_size * (next + 2) ≤ length terms → next + 1 ≤ 65536
+  pub read_parts : i ≡ length row.modes.now → record_size * (next + 2) ≤ length terms → next + 1 ≤ 65536
       → Parts row.term (get_or parts 0 0) (get_or parts 1 0) (get_or parts 2 0) terms next × Room terms (next + 1)
   read_parts e room few = (
     record {
       room = record { room = omega arith; few = omega arith };
-      earlier = rw is_row.parts_are (each_part (λ part. part < next) parts row.fewest is_row.few (λ j l. read.earlier j (omega arith)));
+      earlier = rw is_row.parts_are (each_part (λ part. part < next) parts (length row.modes.now) is_row.few (λ j l. read.earlier j (omega arith)));
       newest = λ own. read.newest 0 (omega (arith, own_parts own, is_row.parts_are));
     },
     record { room = omega arith; few = few },

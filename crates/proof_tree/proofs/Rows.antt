@@ -4,7 +4,7 @@ use mathlib.Core.Path.{◌≡◌, refl, ap, sym, ◌∙◌}
 use Rattle.std.specs.Prelude.{Option}
 use mathlib.Core.List.{List, [], ◌∷◌, map}
 use native.Mathlib.Omega.{arith}
-use lib.ListN.{length, get_or, take, length-take}
+use lib.ListN.{length, get_or}
 use Rattle.definitions.specs.Term.{Label, ProofTerm}
 use Rattle.definitions.specs.Tree as tree
 use Rattle.definitions.specs.Tree.{ProofTreeRule, rules}
@@ -20,11 +20,10 @@ same_at f g [] (y ∷ m) a b e i h = let z : ◌≡◌ {A = ℕ} 0 1 = cc in abs
 same_at f g (x ∷ l) (y ∷ m) a b e zero h = cc
 same_at f g (x ∷ l) (y ∷ m) a b e (suc i) h = same_at f g l m a b (cc) i (omega arith)
 
--- what a row says; its first number is the fewest premisses, is at most three, and is the count of the term's parts; it has three modes
+-- what a row says; its first number is the fewest premisses, is at most three, and is the count of the term's parts
 pub record Columns : Type 0 where
   pub fewest : ℕ
   pub three : ℕ
-  pub width : ℕ
   pub parts : ℕ
   pub most : ℕ
   pub modes : Place → List Place
@@ -34,12 +33,11 @@ pub record Columns : Type 0 where
 abbrev pub of_row : Row → Columns
 of_row w =
     record {
-      fewest = w.fewest;
-      three = min 3 w.fewest;
-      width = length w.modes;
+      fewest = length w.modes.now;
+      three = min 3 (length w.modes.now);
       parts = part_count w.term;
       most = w.most;
-      modes = λ own. map (premiss_mode own) (take w.fewest w.modes);
+      modes = λ own. map (premiss_mode own) w.modes.now;
       ending = ending_of w.ending;
       term = term_of w.term;
     }
@@ -49,7 +47,6 @@ of_rule r =
     record {
       fewest = fewest (row r).premisses;
       three = fewest (row r).premisses;
-      width = 3;
       parts = fewest (row r).premisses;
       most = most (row r).premisses;
       modes = places r;
@@ -76,13 +73,8 @@ table_row table w e i h =
       fewest_is = fewest_is;
       most_is = ap (λ (c : Columns). c.most) same;
       few = omega arith;
-      three = ap (λ (c : Columns). c.width) same;
       modes_are = λ own. ap (λ (c : Columns). c.modes own) same;
       ending_is = ap (λ (c : Columns). c.ending) same;
       term_is = ap (λ (c : Columns). c.term) same;
       parts_are = ap (λ (c : Columns). c.parts) same ∙ sym fewest_is;
     }
-
--- there is a mode for each premiss that is read
-pub reads_all : {r : ProofTreeRule} {w : Row} → TableRow r w → length (take w.fewest w.modes) ≡ w.fewest
-reads_all is = rw length-take (omega (arith, is.few, is.three))

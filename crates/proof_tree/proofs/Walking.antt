@@ -91,9 +91,9 @@ module _ {names : ℕ} {pairs code records : List ℕ} {k : ℕ} {row : Row} (mo
   premiss_refused {r} e = refuses {r = r} (export_read names pairs code records k entered.found entered.right mode ∙ rw e)
 
   -- the premisses that are read have been, and the step's term is placed over theirs
-  pub step_placed : {i : ℕ} {parts terms : List ℕ} {next : ℕ} {r : Result ℕ Refusal} → i ≡ row.fewest
+  pub step_placed : {i : ℕ} {parts terms : List ℕ} {next : ℕ} {r : Result ℕ Refusal} → i ≡ length row.modes.now
       → PremissesRead names pairs code records k mode row before used i parts terms next
-      → StepPlaced names pairs code records k mode row.fewest (first_three parts) terms next after r
+      → StepPlaced names pairs code records k mode (length row.modes.now) (first_three parts) terms next after r
       → StepExported names pairs code records k mode before used after r
   unfolding ◌>>=◌
   step_placed all read (refuses {r = r} e) =

@@ -1,5 +1,5 @@
 -- Document 01's table of places and labels, as the program's rows have it.
-use Rattle.std.specs.Prelude.{ℕ, ◌≤◌, ◌≡◌, map, length, take, Option}
+use Rattle.std.specs.Prelude.{ℕ, ◌≤◌, ◌≡◌, map, length, Option}
 use Rattle.definitions.specs.Tree.{ProofTreeRule}
 use Rattle.definitions.specs.Term as term
 use Rattle.definitions.specs.Term.{Label, ProofTerm}
@@ -76,15 +76,13 @@ unfoldable pub premiss_mode : export.Place → PremissMode → export.Place
 premiss_mode own mode.Own = own
 premiss_mode own mode.Checking = checking
 premiss_mode own mode.Inferring = inferring
-premiss_mode own mode.Unread = own
 
 -- the row of a rule
 pub record TableRow (r : ProofTreeRule) (w : Row) : Type 0 where
-  pub fewest_is : w.fewest ≡ fewest (row r).premisses
+  pub fewest_is : length w.modes.now ≡ fewest (row r).premisses
   pub most_is : w.most ≡ most (row r).premisses
-  pub few : w.fewest ≤ 3
-  pub three : length w.modes ≡ 3
-  pub modes_are : (own : export.Place) → map (premiss_mode own) (take w.fewest w.modes) ≡ places r own
+  pub few : length w.modes.now ≤ 3
+  pub modes_are : (own : export.Place) → map (premiss_mode own) w.modes.now ≡ places r own
   pub ending_is : ending_of w.ending ≡ ending r
   pub term_is : term_of w.term ≡ rule_term r
-  pub parts_are : part_count w.term ≡ w.fewest
+  pub parts_are : part_count w.term ≡ length w.modes.now

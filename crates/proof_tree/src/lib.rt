@@ -7,7 +7,7 @@ mod table;
 mod term;
 mod walked_steps;
 
-ghost use Rattle.std.specs.Prelude.{◌+◌, ◌*◌, ◌-◌, ◌<◌, ◌≡◌, get_or};
+ghost use Rattle.std.specs.Prelude.{◌+◌, ◌*◌, ◌-◌, ◌<◌, ◌≡◌, length, get_or};
 ghost use Rattle.definitions.specs.Tree.{rule_in};
 ghost use Rattle.definitions.specs.Export.{checking};
 ghost use Rattle.proof_term.specs.Making.{Room};
@@ -72,7 +72,7 @@ fn placed_term(
     requires row { TableRow (rule_in steps.now.records.now k) row }
     requires parts { Parts row.term (get_or parts 0 0) (get_or parts 1 0) (get_or parts 2 0)
         terms.old.numbers.now terms.old.used × Room terms.old.numbers.now (terms.old.used + 1) }
-    ensures { InPlace (PlacedIn steps.now k (mode_of mode) row.fewest (first_three parts) result)
+    ensures { InPlace (PlacedIn steps.now k (mode_of mode) (length row.modes.now) (first_three parts) result)
         terms.old terms.new }
 {
     let ending = ending_in(mode, row.ending);
@@ -108,10 +108,8 @@ fn do_export_as_proof_term(
     if !row.admits_count(premiss_count(steps.records, k)) {
         return Err(Reason::PremissCount.at(k));
     }
-    let reads = row.fewest as usize;
-    let modes = row.modes;
     let mut parts = [0u16; 3];
-    for (i, &premiss_mode) in modes[..reads].iter().enumerate() {
+    for (i, &premiss_mode) in row.modes.iter().enumerate() {
         do_export_as_proof_term(steps, premiss(steps, k, i), premiss_mode.below(mode), terms)?;
         parts[i] = (terms.used - 1) as u16;
     }

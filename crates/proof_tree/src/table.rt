@@ -5,7 +5,7 @@ ghost use Rattle.definitions.specs.Export.{admits_count};
 ghost use Rattle.proof_tree.specs.Table.{mode_of, premiss_mode, TableRow};
 
 use Ending::{Ascribed, Bare, DatatypeLabelled, LeftLabelled, PremissOwn};
-use PremissMode::{Checking, Inferring, Own, Unread};
+use PremissMode::{Checking, Inferring, Own};
 use RuleTerm::{
     Abort, Application, Case, Function, Ident, LetIn, OrLeft, OrRight, Pair, Premiss, ProjectFst,
     ProjectSnd, Sorry, Unit,
@@ -48,58 +48,56 @@ pub enum RuleTerm {
     Premiss,
 }
 
-// The mode of a premiss: its step's own, or one of the two. Past those that are read there is none.
+// The mode of a premiss: its step's own, or one of the two.
 #[derive(Clone, Copy)]
 pub enum PremissMode {
     Own,
     Checking,
     Inferring,
-    Unread,
 }
 
-// A row of the table: the fewest premisses, all of which are read, and the most; the modes of those that are read; what becomes of
-// the step's term; the term.
+// A row of the table: the modes of the premisses that are read, which are as many as there must be; the most that there may be; what
+// becomes of the step's term; the term.
 #[derive(Clone, Copy)]
 pub struct Row {
-    pub fewest: u8,
+    pub modes: &'static [PremissMode],
     pub most: u8,
-    pub modes: [PremissMode; 3],
     pub ending: Ending,
     pub term: RuleTerm,
 }
 
 // A row on one line of the table: a constant calls no function.
 macro_rules! row {
-    ($fewest:expr, $most:expr, $modes:expr, $ending:expr, $term:expr) => {
+    ($modes:expr, $most:expr, $ending:expr, $term:expr) => {
         Row {
-            fewest: $fewest,
-            most: $most,
             modes: $modes,
+            most: $most,
             ending: $ending,
             term: $term,
         }
     };
 }
 
-// A row for each rule, in the order of their bytes, so that a rule's byte, which the steps have, is its place.
-const ROWS: [Row; 17] = [
-    row!(2, 2, [Own, Own, Unread], Bare, Pair), // AndIntro
-    row!(1, 1, [Inferring, Unread, Unread], Bare, ProjectFst), // AndElimFst
-    row!(1, 1, [Inferring, Unread, Unread], Bare, ProjectSnd), // AndElimSnd
-    row!(0, u8::MAX, [Unread, Unread, Unread], Bare, Unit), // TrueIntro
-    row!(1, 1, [Own, Unread, Unread], LeftLabelled, Function), // ImplIntro
-    row!(2, 2, [Inferring, Checking, Unread], Bare, Application), // ImplElim
-    row!(0, u8::MAX, [Unread, Unread, Unread], Bare, Ident), // Ident
-    row!(1, 1, [Checking, Unread, Unread], Ascribed, OrLeft), // OrIntroFst
-    row!(1, 1, [Checking, Unread, Unread], Ascribed, OrRight), // OrIntroSnd
-    row!(3, 3, [Inferring, Own, Own], Bare, Case), // OrElim
-    row!(1, 1, [Checking, Unread, Unread], Ascribed, Abort), // FalsumElim
-    row!(1, 1, [Own, Unread, Unread], DatatypeLabelled, Function), // ForAllIntro
-    row!(2, 2, [Inferring, Checking, Unread], Bare, Application), // ForAllElim
-    row!(2, 2, [Checking, Checking, Unread], Ascribed, Pair), // ExistsIntro
-    row!(2, 2, [Inferring, Own, Unread], Bare, LetIn), // ExistsElim
-    row!(0, u8::MAX, [Unread, Unread, Unread], Ascribed, Sorry), // Sorry
-    row!(1, u8::MAX, [Own, Unread, Unread], PremissOwn, Premiss), // AlphaEquivalent
+// A row for each rule, in the order of their bytes, so that a rule's byte, which the steps have, is its place. They lie behind a
+// reference: an index into an array would lay all of them in the frame of each level of the walk, 416 bytes more.
+const ROWS: &[Row] = &[
+    row!(&[Own, Own], 2, Bare, Pair), // AndIntro
+    row!(&[Inferring], 1, Bare, ProjectFst), // AndElimFst
+    row!(&[Inferring], 1, Bare, ProjectSnd), // AndElimSnd
+    row!(&[], u8::MAX, Bare, Unit), // TrueIntro
+    row!(&[Own], 1, LeftLabelled, Function), // ImplIntro
+    row!(&[Inferring, Checking], 2, Bare, Application), // ImplElim
+    row!(&[], u8::MAX, Bare, Ident), // Ident
+    row!(&[Checking], 1, Ascribed, OrLeft), // OrIntroFst
+    row!(&[Checking], 1, Ascribed, OrRight), // OrIntroSnd
+    row!(&[Inferring, Own, Own], 3, Bare, Case), // OrElim
+    row!(&[Checking], 1, Ascribed, Abort), // FalsumElim
+    row!(&[Own], 1, DatatypeLabelled, Function), // ForAllIntro
+    row!(&[Inferring, Checking], 2, Bare, Application), // ForAllElim
+    row!(&[Checking, Checking], 2, Ascribed, Pair), // ExistsIntro
+    row!(&[Inferring, Own], 2, Bare, LetIn), // ExistsElim
+    row!(&[], u8::MAX, Ascribed, Sorry), // Sorry
+    row!(&[Own], u8::MAX, PremissOwn, Premiss), // AlphaEquivalent
 ];
 
 // The row of the rule of a byte.
@@ -120,7 +118,7 @@ impl PremissMode {
         match self {
             PremissMode::Checking => ReasoningMode::Checking,
             PremissMode::Inferring => ReasoningMode::Inferring,
-            PremissMode::Own | PremissMode::Unread => own,
+            PremissMode::Own => own,
         }
     }
 }
@@ -130,6 +128,7 @@ impl Row {
     pub fn admits_count(self, count: u8) -> bool
         ensures { (rule : ProofTreeRule) → TableRow rule self → result ≡ admits_count rule count }
     {
-        self.fewest <= count && count <= self.most
+        let fewest = self.modes.len();
+        fewest <= count as usize && count <= self.most
     }
 }

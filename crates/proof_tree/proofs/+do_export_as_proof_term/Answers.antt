@@ -3,7 +3,7 @@ use Prim.Native.Nat.{ℕ, ◌+◌, ◌≤◌, ◌<◌}
 use mathlib.Core.Path.{◌≡◌, refl, sym, ◌∙◌}
 use mathlib.Core.Bool.{false}
 use native.Mathlib.Omega.{arith}
-use lib.ListN.{get_or}
+use lib.ListN.{length, get_or}
 use borrow.Author.Rules.{rules}
 use Rattle.steps.specs.Size.{sizes}
 use Rattle.proof_tree.specs.Premisses.{premisses_from}
@@ -15,7 +15,6 @@ use Rattle.proof_tree.specs.Table.{mode_of, TableRow}
 use Rattle.proof_tree.specs.Exportable.{GoodStep}
 use Rattle.proof_tree.specs.Exporting.{ExportableWith}
 use Rattle.proof_tree.proofs.Counts.{enough}
-use Rattle.proof_tree.proofs.Rows.{reads_all}
 use Rattle.proof_tree.proofs.Placing.{counted_refused}
 use Rattle.proof_tree.proofs.ReadPremisses.{read_none, read_more, read_refused, room_next, read_parts}
 use Rattle.proof_tree.proofs.Walking.{term_of, refusal_of, refused_as, size_tree, count_refused, Entered, premiss_refused, step_placed}
@@ -50,7 +49,7 @@ module _ (t : ℕ) where
   entered_some c = entered c c.args.steps.now.exportable
 
   -- the step has the premisses that are read
-  has_premisses : (c : Else-not-admits_count t) → c.row_of-row.result.fewest ≤ premiss_count c.args.steps.now.records.now c.args.k
+  has_premisses : (c : Else-not-admits_count t) → length c.row_of-row.result.modes.now ≤ premiss_count c.args.steps.now.records.now c.args.k
   unfolding admits_count
   has_premisses c = let there = entered_some c in omega (arith, there.is_row.fewest_is, enough (row _).premisses _ there.right)
 
@@ -79,7 +78,7 @@ loop-i-init t c = (λ names e. read_none _ _ _ _ _ _ _ _ _, refl)
 pub premiss-requires-clause-position_in_bounds : goal.premiss-requires-clause-position_in_bounds
 premiss-requires-clause-position_in_bounds t c =
     let there = (goal.at.premiss-requires-clause-position_in_bounds t c).Else-not-admits_count in
-    omega (arith, has_premisses t there, reads_all (entered_some t there).is_row)
+    omega (arith, has_premisses t there)
 
 pub do_export_as_proof_term-requires : goal.do_export_as_proof_term-requires
 do_export_as_proof_term-requires t c =
@@ -88,7 +87,7 @@ do_export_as_proof_term-requires t c =
     let s = c.args.steps.now in
     let read = c.loop-i.invariant.0 s.names s.exportable in
     let step = c.premiss.ensures in
-    let room = room_next row read (rw (reads_all row) at c.loop-i-test.true) step c.below.ensures in
+    let room = room_next row read c.loop-i-test.true step c.below.ensures in
     let within : c.premiss.result < s.count = omega (arith, step.earlier, c.requires.k_in_bounds) in
     let size = s.exportable.table.sizes s.names s.pairs.now s.code.now c.premiss.result within in (
       omega (arith, step.earlier, c.decreases),
@@ -110,7 +109,7 @@ returns-in_err-do_export_as_proof_term t c =
           let there = entered t (goal.at.returns-in_err-do_export_as_proof_term t c).Else-not-admits_count e in
           refused_as (counted_refused _ (search rules))
           (premiss_refused (mode_of _) there
-          (read_refused there.is_row (c.loop-i.invariant.0 names e) (rw (reads_all there.is_row) at c.loop-i-test.true) c.premiss.ensures c.below.ensures
+          (read_refused there.is_row (c.loop-i.invariant.0 names e) c.loop-i-test.true c.premiss.ensures c.below.ensures
           (refusal_of (refuses.changed names e) refl)));
       same_memory = refuses.same_memory ∙ c.loop-i.invariant.1;
       same_length = refuses.same_length ∙ (c.loop-i.invariant.0 s.names s.exportable).same;
@@ -125,7 +124,7 @@ overflow_cast-parts t c =
     let at = goal.at.overflow_cast-parts t c in
     let row = (entered_some t at.Else-not-admits_count).is_row in
     let s = c.args.steps.now in
-    let room = room_next row (c.loop-i.invariant.0 s.names s.exportable) (rw (reads_all row) at c.loop-i-test.true) c.premiss.ensures c.below.ensures in
+    let room = room_next row (c.loop-i.invariant.0 s.names s.exportable) c.loop-i-test.true c.premiss.ensures c.below.ensures in
     let read = term_of (c.in_ok-do_export_as_proof_term.ensures.changed s.names s.exportable) refl in
     record { fits = omega (arith, room, sized t at.Start, read.high, read.low, c.requires.room_for.few) }
 
@@ -135,7 +134,7 @@ loop-i-preserved t c =
     let made = c.in_ok-do_export_as_proof_term.ensures in (
       λ names e.
           let there = entered t (goal.at.loop-i-preserved t c).Else-not-admits_count e in
-          read_more there.is_row (c.loop-i.invariant.0 names e) (rw (reads_all there.is_row) at c.loop-i-test.true) step
+          read_more there.is_row (c.loop-i.invariant.0 names e) c.loop-i-test.true step
           c.below.ensures
           (term_of (made.changed names e) refl)
           (omega (arith, step.earlier)) made.same_length,
@@ -151,7 +150,7 @@ placed_term-requires-clause-parts t c =
     let row = (entered_some t at.Else-not-admits_count).is_row in
     let s = c.args.steps.now in
     let read = c.loop-i.invariant.0 s.names s.exportable in
-    read_parts row read (omega (arith, c.loop-i-test.false, read.position, reads_all row))
+    read_parts row read (omega (arith, c.loop-i-test.false, read.position))
     (omega (arith, read.high, sized t at.Start, read.same, c.requires.room_for.room))
     (omega (arith, read.high, sized t at.Start, c.requires.room_for.few))
 
@@ -163,7 +162,7 @@ returns t c =
       changed = λ names e.
           let read = c.loop-i.invariant.0 names e in
           let there = entered t (goal.at.returns t c).Else-not-admits_count e in
-          step_placed (mode_of _) there (omega (arith, c.loop-i-test.false, read.position, reads_all there.is_row)) read
+          step_placed (mode_of _) there (omega (arith, c.loop-i-test.false, read.position)) read
           (placed.changed names e);
       same_memory = placed.same_memory ∙ c.loop-i.invariant.1;
       same_length = placed.same_length ∙ (c.loop-i.invariant.0 s.names s.exportable).same;

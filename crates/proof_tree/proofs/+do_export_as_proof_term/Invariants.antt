@@ -1,6 +1,7 @@
 -- The loop's invariant: what is left of the premisses decides what they all come to. The calls end by the step's number.
 use Prim.Native.Nat.{ℕ, ◌-◌}
 use mathlib.Core.Path.{◌≡◌}
+use lib.ListN.{length}
 use Rattle.proof_tree.specs.Table.{mode_of}
 use Rattle.proof_tree.specs.Exporting.{ExportableWith}
 use Rattle.proof_tree.proofs.ReadPremisses.{PremissesRead}
@@ -16,4 +17,4 @@ invariant-loop-i l =
     × (l.terms.numbers.ghost_name ≡ before.numbers.ghost_name)
 
 abbrev pub decreases-loop-i : goal.decreases-loop-i
-decreases-loop-i l = l.reads - l.i
+decreases-loop-i l = length l.row.modes.now - l.i
