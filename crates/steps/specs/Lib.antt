@@ -4,3 +4,4 @@ pub mod Size
 pub mod Tables
 pub mod StepAt
 pub mod Rules
+pub mod Fields
