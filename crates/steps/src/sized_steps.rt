@@ -18,6 +18,8 @@ pub struct SizedSteps<'a> {
 impl SizedSteps<'_> {
     // Where the tree of the step behind these starts, if that step finds its premisses: back over each of them by its size. A `try_fold`
     // leaves open that each turn may subtract and where the last one ends, which are inductions over its turns: the loop has one invariant.
+    // With the loops of `tree_height` and of `premiss` in `proof_tree` it shares the one line that goes back, and `Walk`, which says where
+    // that leads: an iterator over premisses would be a struct with an `impl` and its laws in the place of that line.
     #[tactic(auto, using(crate::proofs::Walk::walk_within))]
     pub(crate) fn next_start(&self) -> Option<usize>
         requires { HasStep self.now.step_records.now self.now.steps }
