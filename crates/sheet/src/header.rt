@@ -8,8 +8,9 @@ ghost use Rattle.sheet.specs.Checks.{answered, short_check};
 use definitions::{Reason, Refusal};
 use reader::header_number;
 
-// The six header numbers: T, N, C, P, S and the goal. A header that was only read may lie outside its ranges, so the ranges are asked
-// for where a place is reckoned.
+// The six header numbers: T, N, C, P, S and the goal. The `header_of` any bytes is one, and so is what two of them add up to, in the
+// ranges or not: `InRange` is asked for where the numbers are reckoned with or written. A second type for those in their ranges would
+// hold this one, and all who read a number of an accepted sheet, who are asked for nothing, would go through it.
 #[derive(Clone, Copy)]
 pub struct Sheet {
     pub text_length: usize,
