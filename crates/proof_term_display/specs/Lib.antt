@@ -4,3 +4,4 @@ pub mod Format
 pub mod Printable
 pub mod Item
 pub mod Ascriptions
+pub mod Printer

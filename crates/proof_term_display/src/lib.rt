@@ -9,11 +9,11 @@ ghost use Rattle.definitions.specs.Display.{form};
 ghost use Rattle.proof_term.specs.Records.{record_size, field_at, record_term};
 ghost use Rattle.proof_term.specs.Forms.{as_form};
 ghost use Rattle.proof_term.specs.Views.{kind_number};
-ghost use Rattle.proof_term_display.specs.Ascriptions.{bracket, AscribedBody, body_bracketed, after_body};
+ghost use Rattle.proof_term_display.specs.Ascriptions.{bracket, AscribedBody, body_bracketed};
 ghost use Rattle.proof_term_display.specs.Brackets.{position_of, is_bracketed, bracket_row, form_at};
 ghost use Rattle.proof_term_display.specs.Format.{part_field, part_number, part_position, item_of, part, items, formats};
-ghost use Rattle.proof_term_display.specs.Printable.{PrintableTerm, PrintableLabel, term_text, shown_label, shown_parameter_label};
-ghost use Rattle.proof_term_display.specs.Item.{LabelReady, ItemReady, record_item};
+ghost use Rattle.proof_term_display.specs.Printable.{PrintableTerm, term_text};
+ghost use Rattle.proof_term_display.specs.Printer.{HasLabel, shown_in, shown_of_parameter, HasTerm, HasItem, HasLabelOf, text_of, text_of_item, text_after};
 
 use definitions::Style;
 use output::Sink;
@@ -160,44 +160,37 @@ fn format_of(kind: Kind) -> &'static [u8]
     }
 }
 
-// What the printing of a term goes by: where the names and the propositions lie, and the style. The records, the memory and the ends
-// stand beside it: they are lent, and of what is lent a clause on a struct would say `p.now.records.now` for `records.now`.
+// What the printing of a term goes by: its records, the memory of its names and propositions, and the style.
 #[derive(Clone, Copy)]
-pub struct Printer {
-    pub vocabulary: Vocabulary,
-    pub style: Style,
+struct Printer<'a> {
+    records: &'a [u16],
+    propositions: Propositions<'a>,
+    style: Style,
 }
 
 // A label: a proposition or a datatype.
-fn put_label<S: Sink<u8>>(sink: &mut S, label: Label, bytes: &[u8], v: Vocabulary, ends: &[u16])
-    requires { PrintableLabel bytes.now v ends.now label }
-    ensures { S.puts sink.old (shown_label bytes.now v label) sink.new }
+fn put_label<S: Sink<u8>>(sink: &mut S, label: Label, propositions: &Propositions)
+    requires { HasLabel propositions.now label }
+    ensures { S.puts sink.old (shown_in propositions.now label) sink.new }
 {
     match label {
-        Label::Datatype(datatype) => sink.put_all(name(bytes, v, usize::from(datatype))),
-        Label::Proposition(at) => {
-            let propositions = Propositions { bytes, v, ends };
-            put_proposition(sink, &propositions, usize::from(at));
+        Label::Datatype(datatype) => {
+            sink.put_all(name(propositions.bytes, propositions.v, usize::from(datatype)));
         }
+        Label::Proposition(at) => put_proposition(sink, propositions, usize::from(at)),
     }
 }
 
 // The label of a parameter, if it has one, after a colon.
-fn put_parameter_label<S: Sink<u8>>(
-    sink: &mut S,
-    label: Option<Label>,
-    bytes: &[u8],
-    v: Vocabulary,
-    ends: &[u16],
-)
-    requires { IfSome label (PrintableLabel bytes.now v ends.now) }
-    ensures { S.puts sink.old (shown_parameter_label bytes.now v label) sink.new }
+fn put_parameter_label<S: Sink<u8>>(sink: &mut S, label: Option<Label>, propositions: &Propositions)
+    requires { IfSome label (HasLabel propositions.now) }
+    ensures { S.puts sink.old (shown_of_parameter propositions.now label) sink.new }
 {
     let Some(label) = label else {
         return;
     };
     sink.put_all(b": ");
-    put_label(sink, label, bytes, v, ends);
+    put_label(sink, label, propositions);
 }
 
 // A bracket, if there is one. A closure that puts what stands between two of them would have to state the whole walk in its contract.
@@ -237,56 +230,38 @@ fn is_body_bracketed(records: &[u16], ascribed: Option<usize>, style: Style) -> 
 }
 
 // What stands after the body of record `n`, if that is an ascription: a colon and its label.
-fn put_ascription<S: Sink<u8>>(
-    sink: &mut S,
-    records: &[u16],
-    n: usize,
-    ascribed: Option<usize>,
-    bytes: &[u8],
-    v: Vocabulary,
-    ends: &[u16],
-)
-    requires printable_term { PrintableTerm records.now n bytes.now v ends.now }
-    requires label_ready { OnSome ascribed (LabelReady bytes.now v ends.now records.now n) }
-    ensures { S.puts sink.old (after_body bytes.now v records.now n ascribed) sink.new }
+fn put_ascription<S: Sink<u8>>(sink: &mut S, p: &Printer, n: usize, ascribed: Option<usize>)
+    requires has_term { HasTerm p.now n }
+    requires has_label { OnSome ascribed (HasLabelOf p.now n) }
+    ensures { S.puts sink.old (text_after p.now n ascribed) sink.new }
 {
     let Some(_) = ascribed else {
         return;
     };
     sink.put_all(b": ");
-    put_label(sink, label_at(records, n), bytes, v, ends);
+    put_label(sink, label_at(p.records, n), &p.propositions);
 }
 
 // A part of record `n`, in brackets where its position asks for them.
 #[cycle(put_node)]
-fn put_part<S: Sink<u8>>(
-    sink: &mut S,
-    which: TermPart,
-    records: &[u16],
-    n: usize,
-    bytes: &[u8],
-    ends: &[u16],
-    p: Printer,
-)
-    requires printable_term { PrintableTerm records.now n bytes.now p.vocabulary ends.now }
-    requires item_ready { ItemReady bytes.now p.vocabulary ends.now records.now n (part (part_number which)) }
-    ensures { S.puts sink.old
-        (record_item bytes.now p.vocabulary records.now n p.style (part (part_number which))) sink.new }
+fn put_part<S: Sink<u8>>(sink: &mut S, p: &Printer, n: usize, which: TermPart)
+    requires has_term { HasTerm p.now n }
+    requires has_item { HasItem p.now n (part (part_number which)) }
+    ensures { S.puts sink.old (text_of_item p.now n (part (part_number which))) sink.new }
 {
-    let number = field(records, n, which.field());
+    let number = field(p.records, n, which.field());
     if n <= number {
         sink.put_all(b"()");
         return;
     }
-    let style = p.style;
-    let bracketed = is_bracketed(records, number, which.position(), style);
-    let ascribed = ascribed_body(records, number);
-    let inner = is_body_bracketed(records, ascribed, style);
+    let bracketed = is_bracketed(p.records, number, which.position(), p.style);
+    let ascribed = ascribed_body(p.records, number);
+    let inner = is_body_bracketed(p.records, ascribed, p.style);
     put_bracket(sink, b'(', bracketed);
     put_bracket(sink, b'(', inner);
-    put_node(sink, records, ascribed.unwrap_or(number), bytes, ends, p);
+    put_node(sink, p, ascribed.unwrap_or(number));
     put_bracket(sink, b')', inner);
-    put_ascription(sink, records, number, ascribed, bytes, p.vocabulary, ends);
+    put_ascription(sink, p, number, ascribed);
     put_bracket(sink, b')', bracketed);
 }
 
@@ -299,39 +274,30 @@ fn is_between(b: u8, first: u8, last: u8) -> bool
 
 // What a byte of a format stands for in record `n`. One test tells most of the bytes that stand for themselves: those outside 1 to M.
 #[cycle(put_node)]
-fn put_item<S: Sink<u8>>(
-    sink: &mut S,
-    b: u8,
-    records: &[u16],
-    n: usize,
-    bytes: &[u8],
-    ends: &[u16],
-    p: Printer,
-)
-    requires printable_term { PrintableTerm records.now n bytes.now p.vocabulary ends.now }
-    requires item_ready { ItemReady bytes.now p.vocabulary ends.now records.now n (item_of b) }
-    ensures { S.puts sink.old
-        (record_item bytes.now p.vocabulary records.now n p.style (item_of b)) sink.new }
+fn put_item<S: Sink<u8>>(sink: &mut S, p: &Printer, n: usize, b: u8)
+    requires has_term { HasTerm p.now n }
+    requires has_item { HasItem p.now n (item_of b) }
+    ensures { S.puts sink.old (text_of_item p.now n (item_of b)) sink.new }
 {
     if !is_between(b, b'1', b'M') {
         sink.put(b);
         return;
     }
     if is_between(b, b'1', b'5') {
-        let number = field(records, n, (b - b'0') as usize);
-        sink.put_all(name(bytes, p.vocabulary, number));
+        let number = field(p.records, n, (b - b'0') as usize);
+        sink.put_all(name(p.propositions.bytes, p.propositions.v, number));
         return;
     }
     if let Some(which) = TermPart::of_letter(b) {
-        put_part(sink, which, records, n, bytes, ends, p);
+        put_part(sink, p, n, which);
         return;
     }
     if b == b'L' {
-        put_parameter_label(sink, parameter_at(records, n), bytes, p.vocabulary, ends);
+        put_parameter_label(sink, parameter_at(p.records, n), &p.propositions);
         return;
     }
     if b == b'M' {
-        put_label(sink, label_at(records, n), bytes, p.vocabulary, ends);
+        put_label(sink, label_at(p.records, n), &p.propositions);
         return;
     }
     sink.put(b);
@@ -339,19 +305,12 @@ fn put_item<S: Sink<u8>>(
 
 // The term of record `n`, item by item of its kind's format.
 #[cycle(put_node)]
-fn put_node<S: Sink<u8>>(
-    sink: &mut S,
-    records: &[u16],
-    n: usize,
-    bytes: &[u8],
-    ends: &[u16],
-    p: Printer,
-)
-    requires { PrintableTerm records.now n bytes.now p.vocabulary ends.now }
-    ensures { S.puts sink.old (term_text p.style bytes.now p.vocabulary records.now n) sink.new }
+fn put_node<S: Sink<u8>>(sink: &mut S, p: &Printer, n: usize)
+    requires { HasTerm p.now n }
+    ensures { S.puts sink.old (text_of p.now n) sink.new }
 {
-    for &b in format_of(kind_at(records, n)) {
-        put_item(sink, b, records, n, bytes, ends, p);
+    for &b in format_of(kind_at(p.records, n)) {
+        put_item(sink, p, n, b);
     }
 }
 
@@ -369,8 +328,9 @@ pub fn put_term<S: Sink<u8>>(
     ensures { S.puts sink.old (term_text style bytes.now v records.now n) sink.new }
 {
     let p = Printer {
-        vocabulary: v,
+        records,
+        propositions: Propositions { bytes, v, ends },
         style,
     };
-    put_node(sink, records, n, bytes, ends, p);
+    put_node(sink, &p, n);
 }

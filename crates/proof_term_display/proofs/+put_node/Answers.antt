@@ -8,7 +8,7 @@ use lib.Dec.{leb}
 use Rattle.proof_term.specs.Records.{field_at}
 use Rattle.prop.proofs.Shown.{below_as, put_as}
 use Rattle.proof_term_display.specs.Format.{part_field, part_number, item_text}
-use Rattle.proof_term_display.specs.Printable.{PrintableTerm}
+use Rattle.proof_term_display.specs.Printer.{HasTerm}
 use Rattle.proof_term_display.specs.Item.{ItemReady}
 use Rattle.proof_term_display.proofs.Tables.{part_field_below, at_position, kind_seen}
 use Rattle.proof_term_display.proofs.Items.{between, item_outside, item_name, item_part, item_fixed}
@@ -22,17 +22,17 @@ use Rattle.proof_term_display.proofs.+put_node.Goals.{put_part-After-field-numbe
 
 -- the part's number, and what it takes to print it
 number_is : (g : _) (t : ℕ) → (c : put_part-After-field-number g t) → let s = c.args in
-    c.field-number.result ≡ field_at s.records.now s.n (part_field (part_number s.which))
+    c.field-number.result ≡ field_at s.p.now.records.now s.n (part_field (part_number s.which))
 number_is g t c = c.field-number.ensures.0 ∙ ap (field_at _ _) c.field.ensures
 
 number_printable : (g : _) (t : ℕ) → (c : put_part-Else-n-number g t) → let s = c.args in
-    PrintableTerm s.records.now c.field-number.result s.bytes.now s.p.vocabulary s.ends.now
+    HasTerm s.p.now c.field-number.result
 number_printable g t c =
-    printable_part (part_number c.args.which) _ (number_is g t (goal.at.put_part-Else-n-number g t c).After-field-number) c.if-n-number.false c.requires.printable_term c.requires.item_ready
+    printable_part (part_number c.args.which) _ (number_is g t (goal.at.put_part-Else-n-number g t c).After-field-number) c.if-n-number.false c.requires.has_term c.requires.has_item
 
 pub put_part-field-number-requires : goal.put_part-field-number-requires
 put_part-field-number-requires g t c =
-    (c.requires.printable_term.held, omega (arith, c.field.ensures, part_field_below (part_number c.args.which)))
+    (c.requires.has_term.held, omega (arith, c.field.ensures, part_field_below (part_number c.args.which)))
 
 pub put_part-returns-then-n-number : goal.put_part-returns-then-n-number
 put_part-returns-then-n-number g t c =
@@ -41,7 +41,7 @@ put_part-returns-then-n-number g t c =
 
 pub put_part-is_bracketed-bracketed-requires : goal.put_part-is_bracketed-bracketed-requires
 put_part-is_bracketed-bracketed-requires g t c =
-    omega (arith, c.requires.printable_term.held)
+    omega (arith, c.requires.has_term.held)
 
 pub put_part-put_node-requires : goal.put_part-put_node-requires
 put_part-put_node-requires g t c =
@@ -51,7 +51,7 @@ put_part-put_node-requires g t c =
 pub put_part-put_ascription-requires : goal.put_part-put_ascription-requires
 put_part-put_ascription-requires g t c =
     let printable = number_printable g t (goal.at.put_part-put_ascription-requires g t c).Else-n-number in
-    record { printable_term = printable; label_ready = label_printable c.ascribed_body-ascribed.ensures printable }
+    record { has_term = printable; has_label = label_printable c.ascribed_body-ascribed.ensures printable }
 
 pub put_part-returns : goal.put_part-returns
 put_part-returns g t c =
@@ -60,10 +60,10 @@ put_part-returns g t c =
     c.put_bracket.ensures c.put_bracket-2.ensures (rw c.unwrap_or.ensures at c.put_node.ensures) c.put_bracket-3.ensures c.put_ascription.ensures c.put_bracket-4.ensures
 
 pub put_part-is_body_bracketed-inner-requires : goal.put_part-is_body_bracketed-inner-requires
-put_part-is_body_bracketed-inner-requires g t c = body_held c.ascribed_body-ascribed.ensures (omega (arith, c.requires.printable_term.held))
+put_part-is_body_bracketed-inner-requires g t c = body_held c.ascribed_body-ascribed.ensures (omega (arith, c.requires.has_term.held))
 
 pub put_part-ascribed_body-ascribed-requires : goal.put_part-ascribed_body-ascribed-requires
-put_part-ascribed_body-ascribed-requires g t c = omega (arith, c.requires.printable_term.held)
+put_part-ascribed_body-ascribed-requires g t c = omega (arith, c.requires.has_term.held)
 
 pub put_node-put_item-requires : goal.put_node-put_item-requires
 put_node-put_item-requires g t c =
@@ -81,7 +81,7 @@ put_node-kind_at-requires g t c = c.requires.held
 
 pub put_node-loop-b-init : goal.put_node-loop-b-init
 put_node-loop-b-init g t c =
-    start _ _ _ _ _ _ g.met.S.Sink.laws c.requires (kind_seen c.args.records.now c.args.n c.kind_at.ensures) c.format_of-b-items.ensures
+    start _ _ _ _ _ _ g.met.S.Sink.laws c.requires (kind_seen c.args.p.now.records.now c.args.n c.kind_at.ensures) c.format_of-b-items.ensures
 
 -- what the tests tell
 is_name : (g : _) (t : ℕ) → (c : put_item-Then-is_between g t) → let b = c.args.b in leb 49 b && leb b 53 ≡ true
@@ -103,8 +103,8 @@ put_item-returns-then-not-is_between g t c =
 pub put_item-name-requires : goal.put_item-name-requires
 unfolding ItemReady
 put_item-name-requires g t c =
-    let below = rw (item_name c.args.b (is_name g t (goal.at.put_item-name-requires g t c).Then-is_between)) at c.requires.item_ready in
-    c.requires.printable_term.named _ (below_as c.field-number.ensures.0 below)
+    let below = rw (item_name c.args.b (is_name g t (goal.at.put_item-name-requires g t c).Then-is_between)) at c.requires.has_item in
+    c.requires.has_term.named _ (below_as c.field-number.ensures.0 below)
 
 pub put_item-returns-then-is_between : goal.put_item-returns-then-is_between
 unfolding item_text
@@ -114,8 +114,8 @@ put_item-returns-then-is_between g t c =
 
 pub put_item-put_part-requires : goal.put_item-put_part-requires
 put_item-put_part-requires g t c =
-    let ready = rw (item_part c.args.b (no_name g t (goal.at.put_item-put_part-requires g t c).After-of_letter) _ c.in-Some.ensures) at c.requires.item_ready in
-    λ κs lives. (omega (arith, c.decreases), (lives, (c.requires.printable_term, ready)))
+    let ready = rw (item_part c.args.b (no_name g t (goal.at.put_item-put_part-requires g t c).After-of_letter) _ c.in-Some.ensures) at c.requires.has_item in
+    λ κs lives. (omega (arith, c.decreases), (lives, (c.requires.has_term, ready)))
 
 pub put_item-returns-in-Some : goal.put_item-returns-in-Some
 put_item-returns-in-Some g t c =
@@ -124,23 +124,23 @@ put_item-returns-in-Some g t c =
 pub put_item-put_parameter_label-requires : goal.put_item-put_parameter_label-requires
 unfolding ItemReady
 put_item-put_parameter_label-requires g t c =
-    printable_parameter c.requires.printable_term (rw (item_of_parameter c.args.b c.if-b-eq76.true) at c.requires.item_ready) _ c.parameter_at.ensures
+    printable_parameter c.requires.has_term (rw (item_of_parameter c.args.b c.if-b-eq76.true) at c.requires.has_item) _ c.parameter_at.ensures
 
 pub put_item-returns-then-b-eq76 : goal.put_item-returns-then-b-eq76
 unfolding item_text
 put_item-returns-then-b-eq76 g t c =
-    rw (item_of_parameter _ c.if-b-eq76.true, ← (parameter_label_shown c.args.bytes.now c.args.p.vocabulary c.args.records.now c.args.n c.parameter_at.ensures))
+    rw (item_of_parameter _ c.if-b-eq76.true, ← (parameter_label_shown c.args.p.now.propositions.bytes.now c.args.p.now.propositions.v c.args.p.now.records.now c.args.n c.parameter_at.ensures))
     c.put_parameter_label.ensures
 
 pub put_item-put_label-requires : goal.put_item-put_label-requires
 unfolding ItemReady
 put_item-put_label-requires g t c =
-    printable_label c.requires.printable_term (rw (item_of_ascription c.args.b c.if-b-eq77.true) at c.requires.item_ready) (sym c.label_at.ensures)
+    printable_label c.requires.has_term (rw (item_of_ascription c.args.b c.if-b-eq77.true) at c.requires.has_item) (sym c.label_at.ensures)
 
 pub put_item-returns-then-b-eq77 : goal.put_item-returns-then-b-eq77
 unfolding item_text
 put_item-returns-then-b-eq77 g t c =
-    rw (item_of_ascription _ c.if-b-eq77.true, ← (label_shown c.args.bytes.now c.args.p.vocabulary c.args.records.now c.args.n c.label_at.ensures))
+    rw (item_of_ascription _ c.if-b-eq77.true, ← (label_shown c.args.p.now.propositions.bytes.now c.args.p.now.propositions.v c.args.p.now.records.now c.args.n c.label_at.ensures))
     c.put_label.ensures
 
 pub put_item-returns : goal.put_item-returns
@@ -151,10 +151,10 @@ put_item-returns g t c =
     c.put-2.ensures
 
 pub put_item-overflow_sub-b : goal.put_item-overflow_sub-b
-put_item-overflow_sub-b g t c = omega (arith, name_range g t c)
+put_item-overflow_sub-b g t c = omega (arith, name_range g t (goal.at.put_item-overflow_sub-b g t c).Then-is_between)
 
 pub put_item-overflow_cast-b : goal.put_item-overflow_cast-b
-put_item-overflow_cast-b g t c = omega (arith, name_range g t c)
+put_item-overflow_cast-b g t c = omega (arith, name_range g t (goal.at.put_item-overflow_cast-b g t c).Then-is_between)
 
 pub put_item-field-number-requires : goal.put_item-field-number-requires
-put_item-field-number-requires g t c = (c.requires.printable_term.held, omega (arith, name_range g t c))
+put_item-field-number-requires g t c = (c.requires.has_term.held, omega (arith, name_range g t (goal.at.put_item-field-number-requires g t c).Then-is_between))

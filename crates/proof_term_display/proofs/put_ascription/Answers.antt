@@ -11,11 +11,11 @@ returns-in_default g c = rw c.in_default.is (g.met.S.Sink.laws.none _)
 pub returns : goal.returns
 unfolding after_body
 returns g c =
-    rw (c.in-Some.is, ← (label_shown c.args.bytes.now c.args.v c.args.records.now c.args.n c.label_at.ensures))
+    rw (c.in-Some.is, ← (label_shown c.args.p.now.propositions.bytes.now c.args.p.now.propositions.v c.args.p.now.records.now c.args.n c.label_at.ensures))
     (g.met.S.Sink.laws.then c.put_all.ensures c.put_label.ensures)
 
 pub label_at-requires : goal.label_at-requires
-label_at-requires g c = c.requires.printable_term.held
+label_at-requires g c = c.requires.has_term.held
 
 pub put_label-requires : goal.put_label-requires
-put_label-requires g c = printable_label c.requires.printable_term (rw c.in-Some.is at c.requires.label_ready) (sym c.label_at.ensures)
+put_label-requires g c = printable_label c.requires.has_term (rw c.in-Some.is at c.requires.has_label) (sym c.label_at.ensures)
