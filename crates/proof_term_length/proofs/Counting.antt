@@ -13,7 +13,6 @@ use Rattle.definitions.specs.Term.{rename_term, rename_parameter_label}
 use Rattle.definitions.specs.Display.{wrap, display_parameter_label, display_term}
 use Rattle.proof_term.specs.Records.{field_at, label_of, parameter_label, part_at}
 use Rattle.proof_term.specs.Labels.{has_label}
-use Rattle.prefix_code.proofs.Positions.{entry_below}
 use Rattle.vocabulary.specs.declared.Vocabulary.{Vocabulary}
 use Rattle.vocabulary.specs.Vocabulary.{pairs_in, text_in, name_in, prop_in}
 use Rattle.prop_length.proofs.Lengths.{wrapped_length}
@@ -30,7 +29,7 @@ use Rattle.proof_term.specs.declared.nodes.Label.{Label}
 use Rattle.proof_term.proofs.Views.{LabelRead}
 use Rattle.proof_term.proofs.NodeLabels.{label_is}
 use Rattle.proof_term_display.specs.declared.TermPart.{TermPart}
-use Rattle.proof_term_length.specs.Measure.{TextRow, row_of, Numbered, total, term_length, name_size, part_size, own_label_length}
+use Rattle.proof_term_length.specs.Measure.{TextRow, row_of, total, term_length, name_size, part_size, own_label_length}
 
 -- a number past the names stands for no byte
 pub no_name : (bytes : List ℕ) (v : Vocabulary) (n : ℕ) → v.name_count ≤ n → length (name_in bytes v n) ≡ 0
@@ -124,23 +123,6 @@ module _ (bytes : List ℕ) (v : Vocabulary) (records : List ℕ) (n : ℕ) (s :
       let is = ap (λ t. display_term s (rename_term (name_in bytes v) t)) (at.holds (prop_in bytes v)) in
       let same = ap (λ b. cond b (2 + length (label_text bytes v records n)) 0) (at.labels (field_at records n 3)) in
       omega (arith, ap length (is ∙ sym shown), texts_length (get_or formats (kind_number k) []), rows_count k, same)
-
--- the numbers of a row's names are numbers of a record
-pub row_numbered : (k : Kind) → Numbered (row_of k).names
-row_numbered kind.Ident = λ i. omega (arith, entry_below (1 ∷ []) i)
-row_numbered kind.Pair = λ i. omega (arith, entry_below [] i)
-row_numbered kind.ProjectFst = λ i. omega (arith, entry_below [] i)
-row_numbered kind.ProjectSnd = λ i. omega (arith, entry_below [] i)
-row_numbered kind.Function = λ i. omega (arith, entry_below (2 ∷ []) i)
-row_numbered kind.Application = λ i. omega (arith, entry_below [] i)
-row_numbered kind.LetIn = λ i. omega (arith, entry_below (3 ∷ 4 ∷ []) i)
-row_numbered kind.OrLeft = λ i. omega (arith, entry_below [] i)
-row_numbered kind.OrRight = λ i. omega (arith, entry_below [] i)
-row_numbered kind.Case = λ i. omega (arith, entry_below (4 ∷ 5 ∷ []) i)
-row_numbered kind.Abort = λ i. omega (arith, entry_below [] i)
-row_numbered kind.TypeAscription = λ i. omega (arith, entry_below [] i)
-row_numbered kind.Unit = λ i. omega (arith, entry_below [] i)
-row_numbered kind.Sorry = λ i. omega (arith, entry_below [] i)
 
 -- by whether the record has a label
 pub label_there : (bytes : List ℕ) (v : Vocabulary) (records : List ℕ) (n : ℕ) {l : Label} → LabelRead records n l

@@ -45,10 +45,6 @@ row_of kind.TypeAscription = make_row 0 [] (AscribedBody ∷ [])
 row_of kind.Unit = make_row 2 [] []
 row_of kind.Sorry = make_row 5 [] []
 
--- numbers of a record
-abbrev pub Numbered : List ℕ → Type 0
-Numbered numbers = (i : ℕ) → get_or numbers i 0 < record_size
-
 -- the sum of a list's sizes
 unfoldable pub total : {A : Type 0} → (A → ℕ) → List A → ℕ
 total size [] = 0

@@ -1,11 +1,11 @@
 // How long the text of a term is, from its records, without printing it. Lengths are counted as far as a cap: one past the room.
 #![tactic(auto)]
 
-ghost use Rattle.std.specs.Prelude.{◌≡◌, List, ℕ, ◌+◌, ◌*◌, ◌≤◌, ◌<◌, min, length};
+ghost use Rattle.std.specs.Prelude.{◌≡◌, List, ℕ, ◌+◌, ◌*◌, ◌≤◌, ◌<◌, min, length, get_or};
 ghost use Rattle.proof_term.specs.Records.{record_size};
 ghost use Rattle.prop.specs.Printing.{prop_text, Printable};
 ghost use Rattle.prop_length.specs.Length.{TextLength};
-ghost use Rattle.proof_term_length.specs.Measure.{seen, make_row, row_of, Numbered, total, name_size, part_size, term_length, own_label_length, Agrees, Measurable, AllNamed, MeasuredBelow, Known};
+ghost use Rattle.proof_term_length.specs.Measure.{seen, make_row, row_of, total, name_size, part_size, term_length, own_label_length, Agrees, Measurable, AllNamed, MeasuredBelow, Known};
 
 use TermPart::{
     Argument, AscribedBody, First, Function, NamedBody, PairFirst, PairSecond, Second, Third,
@@ -72,6 +72,21 @@ fn sum(a: usize, b: usize, cap: usize) -> usize
     a.saturating_add(b).min(cap)
 }
 
+// The sum of the lengths of some items, as far as a cap.
+fn total<T: Copy + Drop, F: Fn(T) -> usize>(items: &[T], cap: usize, length_of: F) -> usize
+    requires { (k : ℕ) (x : T) → k < length items.now → F.pre length_of (get_or items.now k x) }
+    ensures { (size : T → ℕ)
+        → ((k r : ℕ) (x : T) → k < length items.now → F.post length_of (get_or items.now k x) r
+        → Agrees cap r (size (get_or items.now k x)))
+        → Agrees cap result (total size items.now) }
+{
+    let mut length = 0;
+    for &item in items {
+        length = sum(length, length_of(item), cap);
+    }
+    length
+}
+
 // Records, memory, vocabulary, lengths, style and cap stand loose in what follows: five of the functions take each a part of them, and
 // what they ask for speaks of one record, memory or table at a time.
 
@@ -86,26 +101,6 @@ fn name_in(records: &[u16], n: usize, number: usize, bytes: &[u8], v: Vocabulary
         return 0;
     }
     name_length(bytes, v, name)
-}
-
-// The length of the names in some numbers of record `n`.
-fn names_in(
-    records: &[u16],
-    n: usize,
-    numbers: &[usize],
-    bytes: &[u8],
-    v: Vocabulary,
-    cap: usize,
-) -> usize
-    requires n_in_bounds { (record_size * (n + 1) ≤ length records.now) × Numbered numbers.now }
-    requires all_named { AllNamed bytes.now v }
-    ensures { Agrees cap result (total (name_size bytes.now v records.now n) numbers.now) }
-{
-    let mut length = 0;
-    for &number in numbers {
-        length = sum(length, name_in(records, n, number, bytes, v), cap);
-    }
-    length
 }
 
 // The length of a part of record `n`, in brackets where its position asks for them, by the lengths of the records before.
@@ -132,27 +127,6 @@ fn part_in(
     lengths[number]
 }
 
-// The length of some parts of record `n`.
-fn parts_in(
-    records: &[u16],
-    n: usize,
-    parts: &[TermPart],
-    lengths: &[usize; RECORD_LIMIT],
-    style: Style,
-    cap: usize,
-) -> usize
-    requires { (record_size * (n + 1) ≤ length records.now) × (n < 2048) }
-    ensures { (bytes : List ℕ) (v : Vocabulary) →
-        MeasuredBelow bytes v records.now style cap lengths.now n →
-        Agrees cap result (total (part_size bytes v records.now n style) parts.now) }
-{
-    let mut length = 0;
-    for &part in parts {
-        length = sum(length, part_in(records, n, part, lengths, style, cap), cap);
-    }
-    length
-}
-
 // The length of record `n`'s text but for its label.
 fn bare_length(
     records: &[u16],
@@ -170,8 +144,12 @@ fn bare_length(
         (term_length bytes.now v records.now style n) }
 {
     let row = row_of(kind_at(records, n));
-    let names = names_in(records, n, row.names, bytes, v, cap);
-    let parts = parts_in(records, n, row.parts, lengths, style, cap);
+    let names = total(row.names, cap, |number| {
+        name_in(records, n, number, bytes, v)
+    });
+    let parts = total(row.parts, cap, |part| {
+        part_in(records, n, part, lengths, style, cap)
+    });
     let rest = sum(names, parts, cap);
     sum(row.own, rest, cap)
 }
