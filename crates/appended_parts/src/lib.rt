@@ -18,7 +18,7 @@ use vocabulary::name;
 
 // How many pieces were appended, and how long they are together. The memories for pairs and bytes stand beside it: a struct that
 // borrowed both would carry what each holds before and after through every clause.
-#[derive(Default, Drop)]
+#[derive(Default, Clone, Copy)]
 pub struct Appended {
     pub count: usize,
     pub length: usize,

@@ -8,7 +8,7 @@ use lib.ListN.{length, take, drop, length-append, length-drop}
 use lib.Seq.{take-length}
 use Rattle.definitions.specs.Code.{u16}
 use Rattle.definitions.specs.Sheet as sheet
-use Rattle.definitions.specs.Sheet.{step_size, name_limit, text_limit, code_limit, proposition_limit, step_limit, text_length, code_length, header_out_of_range, sheet_length, name_pairs_start, proposition_pairs_start, steps_start, text_start, code_start, name_pairs, proposition_pairs, step_records, text_bytes, code_bytes}
+use Rattle.definitions.specs.Sheet.{pair_size, step_size, name_limit, text_limit, code_limit, proposition_limit, step_limit, text_length, code_length, header_out_of_range, sheet_length, name_pairs_start, proposition_pairs_start, steps_start, text_start, code_start, name_pairs, proposition_pairs, step_records, text_bytes, code_bytes}
 use Rattle.definitions.specs.Tree.{root_of}
 use Rattle.definitions.specs.Encode.{concat, encode_pairs}
 use Rattle.definitions.specs.Assemble.{header_bytes, assemble}
@@ -35,7 +35,8 @@ use Rattle.restating.specs.Step.{header_numbers}
 use Rattle.appended_parts.specs.declared.Appended.{Appended}
 use Rattle.appended_parts.specs.Appended.{codes_below, Appends}
 use Rattle.appended_parts.proofs.Short.{codes_are, codes_within, missing_within}
-use Rattle.merged_sheet.specs.Parts.{Longer, Few, head_and_pairs, records_with, text_and_code, header_with, NewParts}
+use Rattle.merged_sheet.specs.declared.NewParts.{NewParts}
+use Rattle.merged_sheet.specs.Parts.{Few, head_and_pairs, records_with, text_and_code, header_with, PartsOf}
 
 -- two accepted sheets and an open step
 pub grafts : {s t : List ℕ} {h g : Sheet} {k : ℕ} → AcceptedSheet s h → AcceptedSheet t g → Bytes s → Bytes t → not_open s k ≡ false → Grafts s t k
@@ -121,55 +122,30 @@ few_codes {t} donor bytes numbers so =
 pub new_parts : {s t numbers : List ℕ} {h g : Sheet} → AcceptedSheet s h → (b : AcceptedSheet t g) → Bytes t → Numbered s t (sheet.names t) numbers
     → {a b c e : List ℕ} {x y : Appended} → Appends (text_length s) (missing s t) a b x
     → Appends h.code_length (codes_below t numbers (sheet.propositions t)) c e y
-    → {m : Sheet} → m ≡ header_with h g x y → NewParts s t m a b c e
+    → {new : NewParts} → new.header ≡ header_with h g x y
+    → new.name_pairs.now ≡ take (pair_size * x.count) a → new.text.now ≡ take x.length b
+    → new.proposition_pairs.now ≡ take (pair_size * y.count) c → new.code.now ≡ take y.length e
+    → PartsOf s t new
 unfolding header_of header_with
-new_parts {s} {t} {numbers} {h} {g} a b bytes numbered {c = c} {e = e} {x = x} {y = y} names codes is =
+new_parts {s} {t} {numbers} {h} {g} a b bytes numbered {c = c} {e = e} {x = x} {y = y} names codes is name_pairs text proposition_pairs code =
     let same : codes_below t numbers (sheet.propositions t) ≡ donor_codes s t = codes_are b bytes numbers s numbered in
     let codes : Appends (code_length s) (donor_codes s t) c e y = rw (a.header, same) at codes in
     let count : length (donor_codes s t) ≡ sheet.propositions t = codes_count s t in
-    rw (is, a.header, b.header)
-    (record {
-      text = omega (arith, names.size);
-      names = omega (arith, names.count);
-      code = omega (arith, codes.size);
-      propositions = refl;
-      steps = refl;
-      goal = refl;
-      new_names = names.pairs_are;
-      new_text = names.bytes_are;
-      new_propositions = rw count at codes.pairs_are;
-      new_code = codes.bytes_are;
-    })
+    record {
+      text_size = rw (is, a.header) (omega (arith, names.size));
+      names = rw (is, a.header) (omega (arith, names.count));
+      code_size = rw (is, a.header) (omega (arith, codes.size));
+      propositions = rw (is, a.header, b.header) refl;
+      steps = rw (is, a.header, b.header) refl;
+      goal = rw (is, a.header) refl;
+      name_pairs = rw names.count at name_pairs ∙ names.pairs_are;
+      text = rw names.size at text ∙ names.bytes_are;
+      proposition_pairs = rw codes.count at proposition_pairs ∙ codes.pairs_are;
+      code = rw codes.size at code ∙ codes.bytes_are;
+    }
 
-module _ {s t : List ℕ} {h m : Sheet} {a b c e : List ℕ} (accepted : AcceptedSheet s h) (new : NewParts s t m a b c e) where
-  pub longer : Longer h m
-  unfolding header_of
-  longer =
-      rw accepted.header
-      (record {
-        text = omega (arith, new.text);
-        names = omega (arith, new.names);
-        code = omega (arith, new.code);
-        propositions = omega (arith, new.propositions);
-      })
-
-  new_count : m.names - h.names ≡ length (missing s t)
-  unfolding header_of
-  new_count = rw accepted.header (omega (arith, new.names))
-
-  new_propositions_count : m.propositions - h.propositions ≡ sheet.propositions t
-  unfolding header_of
-  new_propositions_count = rw accepted.header (omega (arith, new.propositions))
-
-  new_text_length : m.text_length - h.text_length ≡ length (concat (missing s t))
-  unfolding header_of
-  new_text_length = rw accepted.header (omega (arith, new.text))
-
-  new_code_length : m.code_length - h.code_length ≡ length (concat (donor_codes s t))
-  unfolding header_of
-  new_code_length = rw accepted.header (omega (arith, new.code))
-
-  header_bytes_lem : (k : ℕ) → u16s (header_numbers m) ≡ header_bytes (merged_parts s t k)
+module _ {s t : List ℕ} {h : Sheet} (accepted : AcceptedSheet s h) {x : NewParts} (new : PartsOf s t x) where
+  header_bytes_lem : (k : ℕ) → u16s (header_numbers x.header) ≡ header_bytes (merged_parts s t k)
   unfolding u16s header_numbers header_bytes merged_parts u16
   header_bytes_lem k =
       let long = lengths s accepted.sheet.whole in
@@ -177,11 +153,11 @@ module _ {s t : List ℕ} {h m : Sheet} {a b c e : List ℕ} (accepted : Accepte
       length-append (text_bytes s) (concat (missing s t)) ∙ ap (λ (n : ℕ). n + length (concat (missing s t))) long.text_bytes in
       let code : length (code_bytes s ++ concat (donor_codes s t)) ≡ code_length s + length (concat (donor_codes s t)) =
       length-append (code_bytes s) (concat (donor_codes s t)) ∙ ap (λ (n : ℕ). n + length (concat (donor_codes s t))) long.code_bytes in
-      rw (new.text, new.names, new.code, new.propositions, new.steps, new.goal, text, code)
+      rw (new.text_size, new.names, new.code_size, new.propositions, new.steps, new.goal, text, code)
 
   -- all that is written, in order
   pub merged_bytes : {g : Sheet} {numbers : List ℕ} → AcceptedSheet t g → Numbered s t (sheet.names t) numbers → (k : ℕ)
-      → head_and_pairs s h m a c ++ (records_with s k t numbers ++ text_and_code s h m b e) ≡ merged_sheet s t k
+      → head_and_pairs s x ++ (records_with s k t numbers ++ text_and_code s x) ≡ merged_sheet s t k
   unfolding head_and_pairs records_with text_and_code merged_sheet merged_parts assemble mapped
   merged_bytes {numbers = numbers} donor numbered k =
       let names : List ℕ = name_pairs s ++ encode_pairs (text_length s) (missing s t) in
@@ -190,14 +166,10 @@ module _ {s t : List ℕ} {h m : Sheet} {a b c e : List ℕ} (accepted : Accepte
       (take (step_size * k) (step_records s) ++ (donor_records s t ++ drop (step_size * (k + 1)) (step_records s)))
       ++ ((text_bytes s ++ concat (missing s t)) ++ (code_bytes s ++ concat (donor_codes s t))) in
       rw (
-        new_count,
-        new_propositions_count,
-        new_text_length,
-        new_code_length,
-        new.new_names,
-        new.new_propositions,
-        new.new_text,
-        new.new_code,
+        new.name_pairs,
+        new.proposition_pairs,
+        new.text,
+        new.code,
         donor_steps s t numbers (λ n l. numbered.stored n l) (λ n l. donor.sheet.good_step n l),
         header_bytes_lem k,
       )
@@ -205,14 +177,14 @@ module _ {s t : List ℕ} {h m : Sheet} {a b c e : List ℕ} (accepted : Accepte
       ∙ ap (λ r. header_bytes (merged_parts s t k) ++ r) (append_assoc names propositions rest))
 
   module _ {k : ℕ} (g : Grafts s t k) where
-    pub header_is : m ≡ header_of (merged_sheet s t k)
+    pub header_is : x.header ≡ header_of (merged_sheet s t k)
     unfolding header_of
     header_is =
         rw (merged_text g, merged_count g, merged_code_length g, merged_propositions g, merged_step_count g, merged_goal g)
-        (rw (← new.text, ← new.names, ← new.code, ← new.propositions, ← new.steps, ← new.goal) refl)
+        (rw (← new.text_size, ← new.names, ← new.code_size, ← new.propositions, ← new.steps, ← new.goal) refl)
 
-    pub end_is : (layout_of m).end ≡ length (merged_sheet s t k)
-    end_is = ap (λ x. (layout_of x).end) header_is ∙ (layout_end (merged_sheet s t k) ∙ sym (merged_whole g))
+    pub end_is : (layout_of x.header).end ≡ length (merged_sheet s t k)
+    end_is = ap (λ y. (layout_of y).end) header_is ∙ (layout_end (merged_sheet s t k) ∙ sym (merged_whole g))
 
-    pub range : header_out_of_range (merged_sheet s t k) ≡ false → InRange m
+    pub range : header_out_of_range (merged_sheet s t k) ≡ false → InRange x.header
     range inside = rw header_is (in_range (merged_sheet s t k) inside)

@@ -1,7 +1,7 @@
--- The parts of a merged sheet as they are written: the host's, each before what is appended, which stands in a memory of its own.
+-- The parts of a merged sheet as they are written: the host's, each before what is appended.
 use Rattle.std.specs.Prelude.{ℕ, ◌+◌, ◌*◌, ◌-◌, ◌≤◌, ◌≡◌, List, ◌++◌, length, take, drop}
 use Rattle.definitions.specs.Sheet as sheet
-use Rattle.definitions.specs.Sheet.{pair_size, step_size, name_limit, text_limit, text_length, code_length, name_pairs, proposition_pairs, step_records, text_bytes, code_bytes}
+use Rattle.definitions.specs.Sheet.{step_size, name_limit, text_limit, text_length, code_length, name_pairs, proposition_pairs, step_records, text_bytes, code_bytes}
 use Rattle.definitions.specs.Encode.{concat, encode_pairs}
 use Rattle.definitions.specs.Graft.{missing, donor_codes}
 use Rattle.output.specs.Numbers.{u16s}
@@ -9,26 +9,17 @@ use Rattle.renumbering.specs.Renumbered.{mapped}
 use Rattle.renumbering.specs.StepOver.{steps_over}
 use Rattle.sheet.specs.declared.header.Sheet.{Sheet}
 use Rattle.appended_parts.specs.declared.Appended.{Appended}
+use Rattle.merged_sheet.specs.declared.NewParts.{NewParts}
 use Rattle.restating.specs.Step.{header_numbers}
 
--- a header whose numbers are no smaller
-pub record Longer (h m : Sheet) : Type 0 where
-  pub text : h.text_length ≤ m.text_length
-  pub names : h.names ≤ m.names
-  pub code : h.code_length ≤ m.code_length
-  pub propositions : h.propositions ≤ m.propositions
+-- the header and the pairs; and the text and the code: the host's, each before what is appended
+unfoldable pub head_and_pairs : List ℕ → NewParts → List ℕ
+head_and_pairs s new =
+    u16s (header_numbers new.header)
+    ++ ((name_pairs s ++ new.name_pairs.now) ++ (proposition_pairs s ++ new.proposition_pairs.now))
 
--- Of the host's bytes and two headers, its own and the merged one; the memories hold the new pairs, or the new bytes:
-module _ (s : List ℕ) (h m : Sheet) where
-  unfoldable pub head_and_pairs : List ℕ → List ℕ → List ℕ
-  head_and_pairs a b =
-      u16s (header_numbers m)
-      ++ ((name_pairs s ++ take (pair_size * (m.names - h.names)) a)
-      ++ (proposition_pairs s ++ take (pair_size * (m.propositions - h.propositions)) b))
-
-  unfoldable pub text_and_code : List ℕ → List ℕ → List ℕ
-  text_and_code a b =
-      (text_bytes s ++ take (m.text_length - h.text_length) a) ++ (code_bytes s ++ take (m.code_length - h.code_length) b)
+unfoldable pub text_and_code : List ℕ → NewParts → List ℕ
+text_and_code s new = (text_bytes s ++ new.text.now) ++ (code_bytes s ++ new.code.now)
 
 -- the host's steps with the donor's, over the numbers of a map, in place of step k
 unfoldable pub records_with : List ℕ → ℕ → List ℕ → List ℕ → List ℕ
@@ -52,15 +43,15 @@ header_with h g a b =
       goal = h.goal;
     }
 
--- the merged header, and what is appended in four memories
-pub record NewParts (s t : List ℕ) (m : Sheet) (a b c e : List ℕ) : Type 0 where
-  pub text : m.text_length ≡ text_length s + length (concat (missing s t))
-  pub names : m.names ≡ sheet.names s + length (missing s t)
-  pub code : m.code_length ≡ code_length s + length (concat (donor_codes s t))
-  pub propositions : m.propositions ≡ sheet.propositions s + sheet.propositions t
-  pub steps : m.steps ≡ (sheet.steps s + sheet.steps t) - 1
-  pub goal : m.goal ≡ sheet.goal s
-  pub new_names : take (pair_size * length (missing s t)) a ≡ encode_pairs (text_length s) (missing s t)
-  pub new_text : take (length (concat (missing s t))) b ≡ concat (missing s t)
-  pub new_propositions : take (pair_size * sheet.propositions t) c ≡ encode_pairs (code_length s) (donor_codes s t)
-  pub new_code : take (length (concat (donor_codes s t))) e ≡ concat (donor_codes s t)
+-- the merged header, and what is appended
+pub record PartsOf (s t : List ℕ) (new : NewParts) : Type 0 where
+  pub text_size : new.header.text_length ≡ text_length s + length (concat (missing s t))
+  pub names : new.header.names ≡ sheet.names s + length (missing s t)
+  pub code_size : new.header.code_length ≡ code_length s + length (concat (donor_codes s t))
+  pub propositions : new.header.propositions ≡ sheet.propositions s + sheet.propositions t
+  pub steps : new.header.steps ≡ (sheet.steps s + sheet.steps t) - 1
+  pub goal : new.header.goal ≡ sheet.goal s
+  pub name_pairs : new.name_pairs.now ≡ encode_pairs (text_length s) (missing s t)
+  pub text : new.text.now ≡ concat (missing s t)
+  pub proposition_pairs : new.proposition_pairs.now ≡ encode_pairs (code_length s) (donor_codes s t)
+  pub code : new.code.now ≡ concat (donor_codes s t)

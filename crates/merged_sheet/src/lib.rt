@@ -7,7 +7,7 @@ ghost use Rattle.definitions.specs.Sheet.{steps};
 ghost use Rattle.definitions.specs.Graft.{not_open};
 ghost use Rattle.sheet.specs.Header.{InRange, header_of};
 ghost use Rattle.sheet.specs.Admitted.{Accepted};
-ghost use Rattle.merged_sheet.specs.Parts.{Longer, Few, head_and_pairs, records_with, text_and_code, header_with, NewParts};
+ghost use Rattle.merged_sheet.specs.Parts.{Few, head_and_pairs, records_with, text_and_code, header_with, PartsOf};
 ghost use Rattle.merged_sheet.specs.Merging.{limited, Merging};
 
 use appended_parts::{Appended, append_names, append_propositions};
@@ -23,27 +23,36 @@ use steps::STEP_SIZE;
 // The room for the pairs of the most names or propositions.
 const PAIR_ROOM: usize = PAIR_SIZE * Sheet::NAME_LIMIT;
 
-// The header of the merged sheet m, and all pairs.
-#[tactic(auto, unfolding(definitions::specs::Sheet::pair_size, definitions::specs::Sheet::name_limit, definitions::specs::Sheet::proposition_limit))]
-fn put_pairs<S: Sink<u8>>(
-    sink: &mut S,
-    host: &AdmittedSheet,
-    m: Sheet,
-    new_names: &[u8; PAIR_ROOM],
-    new_propositions: &[u8; PAIR_ROOM],
-)
-    requires { InRange m × Longer (header_of host.now) m }
-    ensures { S.puts sink.old
-        (head_and_pairs host.now (header_of host.now) m new_names.now new_propositions.now) sink.new }
+// Memory for what is appended, as large as a sheet can need: where each part is to stand is known only once all is counted, and there
+// is no heap.
+#[derive(Drop)]
+struct PartMemory {
+    name_pairs: [u8; PAIR_ROOM],
+    text: [u8; Sheet::TEXT_LIMIT],
+    proposition_pairs: [u8; PAIR_ROOM],
+    code: [u8; Sheet::CODE_LIMIT],
+}
+
+// The header of the merged sheet, and what is appended to the host's parts.
+#[derive(Clone, Copy)]
+struct NewParts<'a> {
+    header: Sheet,
+    name_pairs: &'a [u8],
+    text: &'a [u8],
+    proposition_pairs: &'a [u8],
+    code: &'a [u8],
+}
+
+// The header of the merged sheet, and all pairs.
+fn put_pairs<S: Sink<u8>>(sink: &mut S, host: &AdmittedSheet, new: &NewParts)
+    requires { InRange new.now.header }
+    ensures { S.puts sink.old (head_and_pairs host.now new.now) sink.new }
 {
-    let h = host.header();
-    let names = &new_names[..PAIR_SIZE * (m.names - h.names)];
-    let propositions = &new_propositions[..PAIR_SIZE * (m.propositions - h.propositions)];
-    put_header(sink, m);
+    put_header(sink, new.header);
     sink.put_all(host.name_pairs());
-    sink.put_all(names);
+    sink.put_all(new.name_pairs);
     sink.put_all(host.proposition_pairs());
-    sink.put_all(propositions);
+    sink.put_all(new.proposition_pairs);
 }
 
 // The host's steps, with the donor's in place of step k.
@@ -65,25 +74,13 @@ fn put_records<S: Sink<u8>>(sink: &mut S, sheets: &NumberedSheets, k: usize)
 }
 
 // The text and the code.
-#[tactic(auto, unfolding(definitions::specs::Sheet::text_limit, definitions::specs::Sheet::code_limit))]
-fn put_text_and_code<S: Sink<u8>>(
-    sink: &mut S,
-    host: &AdmittedSheet,
-    m: Sheet,
-    new_text: &[u8; Sheet::TEXT_LIMIT],
-    new_code: &[u8; Sheet::CODE_LIMIT],
-)
-    requires { InRange m × Longer (header_of host.now) m }
-    ensures { S.puts sink.old
-        (text_and_code host.now (header_of host.now) m new_text.now new_code.now) sink.new }
+fn put_text_and_code<S: Sink<u8>>(sink: &mut S, host: &AdmittedSheet, new: &NewParts)
+    ensures { S.puts sink.old (text_and_code host.now new.now) sink.new }
 {
-    let h = host.header();
-    let text = &new_text[..m.text_length - h.text_length];
-    let code = &new_code[..m.code_length - h.code_length];
     sink.put_all(host.text_bytes());
-    sink.put_all(text);
+    sink.put_all(new.text);
     sink.put_all(host.code_bytes());
-    sink.put_all(code);
+    sink.put_all(new.code);
 }
 
 // The header of the merged sheet, by those of the two and what is appended.
@@ -103,33 +100,32 @@ fn merged_header(h: Sheet, g: Sheet, names: Appended, propositions: Appended) ->
 }
 
 // What is appended, and the header that the merged sheet has with it.
-fn append_parts(
-    sheets: &NumberedSheets,
-    new_names: &mut [u8; PAIR_ROOM],
-    new_text: &mut [u8; Sheet::TEXT_LIMIT],
-    new_propositions: &mut [u8; PAIR_ROOM],
-    new_code: &mut [u8; Sheet::CODE_LIMIT],
-) -> Sheet
-    ensures new_parts { NewParts sheets.now.host.now sheets.now.donor.now result new_names.new new_text.new
-        new_propositions.new new_code.new }
+fn append_parts<'a>(sheets: &NumberedSheets, memory: &'a mut PartMemory) -> NewParts<'a>
+    ensures parts { PartsOf sheets.now.host.now sheets.now.donor.now result }
     ensures accepted { Accepted sheets.now.host.now × Accepted sheets.now.donor.now }
 {
     let h = sheets.host.header();
     let g = sheets.donor.header();
-    let names = append_names(sheets, new_names, new_text);
+    let names = append_names(sheets, &mut memory.name_pairs, &mut memory.text);
     let propositions = append_propositions(
         sheets.donor,
         sheets.numbers,
         h.code_length,
-        new_propositions,
-        new_code,
+        &mut memory.proposition_pairs,
+        &mut memory.code,
     );
-    merged_header(h, g, names, propositions)
+    let header = merged_header(h, g, names, propositions);
+    NewParts {
+        header,
+        name_pairs: &memory.name_pairs[..PAIR_SIZE * names.count],
+        text: &memory.text[..names.length],
+        proposition_pairs: &memory.proposition_pairs[..PAIR_SIZE * propositions.count],
+        code: &memory.code[..propositions.length],
+    }
 }
 
 // The merged sheet, where it passes no limit and fits. The answer is its header. Whether its levels pass their limit is told, since it
-// is counted by the tables of sizes, which nothing here reads. What is appended has four memories of its own, as large as a sheet can
-// need: where each part is to stand is known only once all is counted, and there is no heap.
+// is counted by the tables of sizes, which nothing here reads.
 pub fn merge(
     sheets: &NumberedSheets,
     k: usize,
@@ -140,17 +136,14 @@ pub fn merge(
     ensures { Merging (limited sheets.now.host.now sheets.now.donor.now k deep (length out.old))
         out.old out.new result }
 {
-    let mut new_names = [0u8; PAIR_ROOM];
-    let mut new_text = [0u8; Sheet::TEXT_LIMIT];
-    let mut new_propositions = [0u8; PAIR_ROOM];
-    let mut new_code = [0u8; Sheet::CODE_LIMIT];
-    let m = append_parts(
-        sheets,
-        &mut new_names,
-        &mut new_text,
-        &mut new_propositions,
-        &mut new_code,
-    );
+    let mut memory = PartMemory {
+        name_pairs: [0u8; PAIR_ROOM],
+        text: [0u8; Sheet::TEXT_LIMIT],
+        proposition_pairs: [0u8; PAIR_ROOM],
+        code: [0u8; Sheet::CODE_LIMIT],
+    };
+    let new = append_parts(sheets, &mut memory);
+    let m = new.header;
     if m.out_of_range() || deep {
         return Err(Reason::MergedLimit.at(0));
     }
@@ -159,8 +152,8 @@ pub fn merge(
     }
     let host = sheets.host;
     let mut writer = Writer { out, to: 0 };
-    put_pairs(&mut writer, host, m, &new_names, &new_propositions);
+    put_pairs(&mut writer, host, &new);
     put_records(&mut writer, sheets, k);
-    put_text_and_code(&mut writer, host, m, &new_text, &new_code);
+    put_text_and_code(&mut writer, host, &new);
     Ok(m)
 }

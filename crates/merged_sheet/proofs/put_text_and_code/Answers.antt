@@ -8,4 +8,4 @@ returns g c =
     let laws = g.met.S.Sink.laws in
     let text = rw c.text_bytes.ensures.is at c.put_all.ensures in
     let code = rw c.code_bytes.ensures.is at c.put_all-3.ensures in
-    rw (← c.header-h.ensures.is) (laws.then (laws.then text c.put_all-2.ensures) (laws.then code c.put_all-4.ensures))
+    laws.then (laws.then text c.put_all-2.ensures) (laws.then code c.put_all-4.ensures)
