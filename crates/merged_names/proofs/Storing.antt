@@ -11,7 +11,8 @@ use Rattle.definitions.specs.Sheet.{names, name_limit}
 use Rattle.definitions.specs.Graft.{renumbered, missing}
 use Rattle.graft_laws.specs.Missing.{missing_below}
 use Rattle.graft_laws.proofs.MergedNumbers.{all_missing, none_missing, few_missing}
-use Rattle.merged_names.specs.Numbered.{Numbered, Known, known, new}
+use Rattle.merged_names.specs.Numbered.{Numbered, Known, known, new, NumberedTo, SameMemory}
+use Rattle.merged_names.specs.declared.Numbering.{Numbering}
 
 module _ (h d : List ℕ) (n : ℕ) where
   -- a number that is known, and a name that is new
@@ -64,17 +65,16 @@ all_there h d = ap length (all_missing h d)
 pub few_below : (h d : List ℕ) (n : ℕ) → length (missing_below h d n) ≤ n
 few_below h d n = few_missing h d n
 
--- the numbers of the names below n are stored, and so many of them are missing
-pub record Filled (h d before : List ℕ) (count absent n : ℕ) (numbers : List ℕ) : Type 0 where
+-- the numbers of the names below n are stored, in the memory in which they stood
+pub record Filled (h d : List ℕ) (before : Numbering) (count n : ℕ) (x : Numbering) : Type 0 where
   pub all : count ≡ names d
   pub reached : n ≤ count
-  pub counted : absent ≡ length (missing_below h d n)
-  pub stored : Numbered h d n numbers
-  pub size : length numbers ≡ length before
+  pub so_far : NumberedTo h d n x
+  pub same : SameMemory before x
 
 -- past the last name all are
-pub all_filled : {h d before : List ℕ} {count absent n : ℕ} {numbers : List ℕ} → Filled h d before count absent n numbers → count ≤ n
-    → (absent ≡ length (missing h d)) × Numbered h d (names d) numbers
+pub all_filled : {h d : List ℕ} {before x : Numbering} {count n : ℕ} → Filled h d before count n x → count ≤ n
+    → (x.missing ≡ length (missing h d)) × Numbered h d (names d) x.numbers.now
 all_filled {h} {d} {n = n} f l =
     let last : n ≡ names d = omega (arith, f.all, f.reached) in
-    (f.counted ∙ ap (λ (m : ℕ). length (missing_below h d m)) last ∙ all_there h d, rw last at f.stored)
+    (f.so_far.missing ∙ ap (λ (m : ℕ). length (missing_below h d m)) last ∙ all_there h d, rw last at f.so_far.numbered)

@@ -6,6 +6,7 @@ use Rattle.definitions.specs.Graft.{renumbered}
 use Rattle.graft_laws.specs.Missing.{missing_below}
 use Rattle.vocabulary.specs.Vocabulary.{name_in, Names}
 use Rattle.name_index.specs.declared.Index.{Index}
+use Rattle.merged_names.specs.declared.Numbering.{Numbering}
 
 -- the names of a sheet where its vocabulary says, with their index
 pub record Indexed (x : Index) : Type 0 where
@@ -25,3 +26,13 @@ pub data Known (h d : List ℕ) (n : ℕ) : Option ℕ → Type 0 where
   known : {i : ℕ} → renumbered h d n ≡ i → i < 65536 → missing_below h d (n + 1) ≡ missing_below h d n → Known h d n (Some i)
   new : renumbered h d n ≡ names h + length (missing_below h d n) → length (missing_below h d (n + 1)) ≡ length (missing_below h d n) + 1
       → Known h d n None
+
+-- the numbers of the names below n are stored, and so many of these names are missing
+pub record NumberedTo (h d : List ℕ) (n : ℕ) (x : Numbering) : Type 0 where
+  pub numbered : Numbered h d n x.numbers.now
+  pub missing : x.missing ≡ length (missing_below h d n)
+
+-- the numbers stand in the memory in which they stood
+pub record SameMemory (before after : Numbering) : Type 0 where
+  pub same_memory : after.numbers.ghost_name ≡ before.numbers.ghost_name
+  pub same_length : length after.numbers.now ≡ length before.numbers.now

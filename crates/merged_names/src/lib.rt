@@ -6,7 +6,7 @@ ghost use Rattle.std.specs.Prelude.{◌≡◌, ◌+◌, ◌<◌, length};
 ghost use Rattle.definitions.specs.Sheet.{names};
 ghost use Rattle.definitions.specs.Graft.{missing};
 ghost use Rattle.graft_laws.specs.Missing.{missing_below};
-ghost use Rattle.merged_names.specs.Numbered.{Indexed, Numbered, Known};
+ghost use Rattle.merged_names.specs.Numbered.{Indexed, Numbered, Known, NumberedTo, SameMemory};
 
 use name_index::Index;
 use vocabulary::name;
@@ -20,40 +20,46 @@ pub struct IndexedSheets<'h, 'd> {
     pub ghost donor_indexed: { Indexed donor },
 }
 
-// The numbers are filled as the loop goes, so they stand beside the two sheets; `equal_conclusions::NumberedSheets` holds them once they
-// are filled.
-
-// The number that donor name n has already: the host's of equal bytes, or that of an earlier name of the donor. A new name has none.
-fn known_number(sheets: &IndexedSheets, numbers: &[u16], n: usize) -> Option<usize>
-    requires below { n < names sheets.now.donor.bytes.now }
-    requires numbered { Numbered sheets.now.host.bytes.now sheets.now.donor.bytes.now n numbers.now }
-    ensures { Known sheets.now.host.bytes.now sheets.now.donor.bytes.now n result }
-{
-    let bytes = name(sheets.donor.bytes, sheets.donor.v, n);
-    if let Some(i) = sheets.host.find(bytes) {
-        return Some(i);
-    }
-    let m = sheets.donor.find(bytes)?;
-    if m < n {
-        return Some(usize::from(numbers[m]));
-    }
-    None
+// The numbers of the donor's names as they are stored, and how many of the names so far are missing in the host.
+// `equal_conclusions::NumberedSheets` holds the numbers once all are stored.
+#[derive(Drop)]
+struct Numbering<'a> {
+    numbers: &'a mut [u16],
+    missing: usize,
 }
 
-// Stores the number of donor name n, and answers how many names are missing up to it, where so many are missing before it.
-fn number_name(sheets: &IndexedSheets, numbers: &mut [u16], n: usize, missing: usize) -> usize
-    requires below { n < names sheets.now.donor.bytes.now }
-    requires numbered { Numbered sheets.now.host.bytes.now sheets.now.donor.bytes.now n numbers.old }
-    requires missing_value { missing ≡ length (missing_below sheets.now.host.bytes.now sheets.now.donor.bytes.now n) }
-    ensures value { result ≡ length (missing_below sheets.now.host.bytes.now sheets.now.donor.bytes.now (n + 1)) }
-    ensures numbered { Numbered sheets.now.host.bytes.now sheets.now.donor.bytes.now (n + 1) numbers.new }
-{
-    let Some(known) = known_number(sheets, numbers, n) else {
-        numbers[n] = (sheets.host.v.name_count + missing) as u16;
-        return missing + 1;
-    };
-    numbers[n] = known as u16;
-    missing
+impl Numbering<'_> {
+    // The number that donor name n has already: the host's of equal bytes, or that of an earlier name of the donor. A new name has none.
+    fn known_number(&self, sheets: &IndexedSheets, n: usize) -> Option<usize>
+        requires below { n < names sheets.now.donor.bytes.now }
+        requires numbered { Numbered sheets.now.host.bytes.now sheets.now.donor.bytes.now n self.now.numbers.now }
+        ensures { Known sheets.now.host.bytes.now sheets.now.donor.bytes.now n result }
+    {
+        let bytes = name(sheets.donor.bytes, sheets.donor.v, n);
+        if let Some(i) = sheets.host.find(bytes) {
+            return Some(i);
+        }
+        let m = sheets.donor.find(bytes)?;
+        if m < n {
+            return Some(usize::from(self.numbers[m]));
+        }
+        None
+    }
+
+    // Stores the number of donor name n.
+    fn number_name(&mut self, sheets: &IndexedSheets, n: usize)
+        requires below { n < names sheets.now.donor.bytes.now }
+        requires so_far { NumberedTo sheets.now.host.bytes.now sheets.now.donor.bytes.now n self.old }
+        ensures so_far { NumberedTo sheets.now.host.bytes.now sheets.now.donor.bytes.now (n + 1) self.new }
+        ensures same_memory { SameMemory self.old self.new }
+    {
+        let Some(known) = self.known_number(sheets, n) else {
+            self.numbers[n] = (sheets.host.v.name_count + self.missing) as u16;
+            self.missing += 1;
+            return;
+        };
+        self.numbers[n] = known as u16;
+    }
 }
 
 // Stores the number of each donor name, and answers how many of them are missing in the host. The numbers have memory of fixed size, one
@@ -64,9 +70,12 @@ pub fn fill_numbers(sheets: &IndexedSheets, numbers: &mut [u16]) -> usize
     ensures numbered { Numbered sheets.now.host.bytes.now sheets.now.donor.bytes.now
         (names sheets.now.donor.bytes.now) numbers.new }
 {
-    let mut missing = 0;
+    let mut numbering = Numbering {
+        numbers,
+        missing: 0,
+    };
     for n in 0..sheets.donor.v.name_count {
-        missing = number_name(sheets, numbers, n, missing);
+        numbering.number_name(sheets, n);
     }
-    missing
+    numbering.missing
 }

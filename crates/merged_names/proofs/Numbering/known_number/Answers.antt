@@ -2,8 +2,8 @@
 use mathlib.Core.Path.{◌≡◌}
 use Rattle.definitions.specs.Sheet.{name_of}
 use Rattle.merged_names.proofs.Knowing.{its_name, searched, is_held, held_by_donor, is_earlier, is_new}
-use Rattle.merged_names.proofs.known_number.Goals as goal
-use Rattle.merged_names.proofs.known_number.Goals.{After-name-bytes}
+use Rattle.merged_names.proofs.Numbering.known_number.Goals as goal
+use Rattle.merged_names.proofs.Numbering.known_number.Goals.{After-name-bytes}
 
 -- the bytes are the donor's name
 bytes : (c : After-name-bytes) → c.name-bytes.result.now ≡ name_of c.args.sheets.now.donor.bytes.now c.args.n
