@@ -1,7 +1,7 @@
 // A refusal as it is handed back: with the column of the step that it names, and as a line.
 #![tactic(auto)]
 
-ghost use Rattle.std.specs.Prelude.{◌≡◌, true, ◌≤◌, length};
+ghost use Rattle.std.specs.Prelude.{◌≡◌, true, ◌≤◌, length, unwrap_or};
 ghost use Rattle.definitions.specs.Sheet.{column, step_records};
 ghost use Rattle.definitions.specs.Answers.{names_step, located, column_words, refusal_line};
 ghost use Rattle.output.specs.Wrote.{Wrote};
@@ -22,33 +22,33 @@ fn names_step(refusal: Refusal) -> bool
     (Reason::StepField as u8..=Reason::NoUniversal as u8).contains(&refusal.number)
 }
 
-// The column of a step: 0 where there is no such step, since 0 is no column and a caller in C is handed a number.
-fn column_at(s: &[u8], k: usize) -> u16
+// The column of a step, if there is such a step.
+fn column_at(s: &[u8], k: usize) -> Option<u16>
     requires { HasHeader s.now (header_of s.now) }
-    ensures { result ≡ column (step_records s.now) k }
+    ensures { unwrap_or result 0 ≡ column (step_records s.now) k }
 {
     let read = Sheet::header(s);
     let Ok(h) = read else {
-        return 0;
+        return None;
     };
     if h.steps <= k {
-        return 0;
+        return None;
     }
     let sheet = HeadedSheet {
         bytes: s,
         header: h,
     };
     let step = step_at(sheet.step_records(), k);
-    step.column
+    Some(step.column)
 }
 
-// A refusal with the column of the step that it names, or 0 where it names none.
+// A refusal with the column of the step that it names, or 0 where it names none or there is no such step.
 pub fn locate(s: &[u8], refusal: Refusal) -> Located
     requires { AfterHeader s.now refusal }
     ensures { result ≡ located s.now refusal }
 {
     if names_step(refusal) {
-        let column = column_at(s, refusal.place as usize);
+        let column = column_at(s, refusal.place as usize).unwrap_or(0);
         return Located { refusal, column };
     }
     Located::from(refusal)

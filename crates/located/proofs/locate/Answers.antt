@@ -5,13 +5,13 @@ use Rattle.definitions.specs.Answers.{column_of, located}
 use Rattle.located.proofs.Columns.{with_column}
 use Rattle.located.proofs.locate.Goals as goal
 
-pub column_at-column-requires : goal.column_at-column-requires
-column_at-column-requires c =
+pub column_at-requires : goal.column_at-requires
+column_at-requires c =
     c.requires.header (sym c.names_step.ensures ∙ c.if-names_step.true)
 
 pub returns-then-names_step : goal.returns-then-names_step
 returns-then-names_step c =
-    with_column _ _ (sym c.names_step.ensures ∙ c.if-names_step.true) c.column_at-column.ensures
+    with_column _ _ (sym c.names_step.ensures ∙ c.if-names_step.true) (c.unwrap_or-column.ensures ∙ c.column_at.ensures)
 
 pub returns : goal.returns
 unfolding located column_of
