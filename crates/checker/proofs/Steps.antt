@@ -15,7 +15,7 @@ use Rattle.prefix_code.specs.Shape.{meant}
 use Rattle.prefix_code.specs.declared.Connective.{Connective}
 use Rattle.prop_numbers.specs.declared.Made.{Made}
 use Rattle.prop_numbers.specs.Standing.{standing, node_limit, stops, name_space, Stood, Known, Space, Kept}
-use Rattle.prop_numbers.specs.Answering.{SideOf}
+use Rattle.prop_numbers.specs.Answering.{SideOf, Expected}
 use Rattle.prop_numbers.proofs.Halves.{Halves, halves, stood_rep, space_of}
 use Rattle.checker.specs.Scope.{Entries}
 use Rattle.checker.specs.Asking.{label_prop, term_of, Few, Judgeable}
@@ -110,3 +110,8 @@ infers_under e i x = rw (← e, ← i) x
 
 pub checks_under : {code : List ℕ} {scope bound : List (Option ℕ)} {t : ProofTerm ℕ} {n k p r : ℕ} → bound ≡ scope → k ≡ n → ChecksAs code bound t k p r → ChecksAs code scope t n p r
 checks_under e i x = rw (← e, ← i) x
+
+-- what is expected over the code and the slots that were lent is expected over those that they are
+pub expected_here : {code code' : List ℕ} {mades mades' : List Made} {connective : Connective} {r node res : ℕ} → (code' ≡ code) × (mades' ≡ mades)
+    → Expected code' mades' r connective node res → Expected code mades r connective node res
+expected_here e found = rw (e.0, e.1) at found

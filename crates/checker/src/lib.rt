@@ -61,13 +61,25 @@ fn entry(scope: &[Option<u32>; NAMES], name: usize, node: usize) -> usize
 // compiler puts into its one caller, so that each of the 512 levels takes one frame. An answer is a number, as prop_numbers::STOPS says.
 // A record is not taken apart as a Node: its numbers would lie in the frame over the calls, 32 bytes more a level (120 for 88 in `check`,
 // 136 for 104 in `infer`, as rustc lays the same text out), and the arm of a case would have ten parameters.
-impl Terms<'_> {
+impl<'a> Terms<'a> {
     // The node after those of the term of record m, whose own is `node`.
     fn after(&self, m: usize, node: usize) -> usize
         requires { Few self.now.records.now m node }
         ensures { After self.now.records.now m node result }
     {
         node + field(self.records, m, SIZE)
+    }
+
+    // The propositions that stand in the code, and those that the nodes made.
+    fn propositions<'b>(&self, made: &'b [Made; NODE_LIMIT]) -> Propositions<'b>
+    where
+        'a: 'b,
+        ensures { (result.code.now ≡ self.now.code.now) × (result.made.now ≡ made.now) }
+    {
+        Propositions {
+            code: self.code,
+            made,
+        }
     }
 
     // The right side of the implication at p, if it is one and has the label of the function of record m, if that has one, for its left
@@ -178,11 +190,7 @@ impl Terms<'_> {
             | Kind::TypeAscription
             | Kind::Unit => {
                 let r = self.infer(state, m, node);
-                let propositions = Propositions {
-                    code: self.code,
-                    made: &state.made,
-                };
-                propositions.agree(r, p, node, 0)
+                self.propositions(&state.made).agree(r, p, node, 0)
             }
         }
     }
@@ -235,11 +243,9 @@ impl Terms<'_> {
     {
         let first = field(self.records, m, FIRST);
         let inferred = self.infer(state, first, node + 1);
-        let propositions = Propositions {
-            code: self.code,
-            made: &state.made,
-        };
-        let h = propositions.expect(inferred, Connective::Or, node);
+        let h = self
+            .propositions(&state.made)
+            .expect(inferred, Connective::Or, node);
         if STOPS <= h {
             return h;
         }
@@ -272,19 +278,11 @@ impl Terms<'_> {
             Kind::Ident => entry(&state.scope, first, node),
             Kind::ProjectFst => {
                 let r = self.infer(state, first, node + 1);
-                let propositions = Propositions {
-                    code: self.code,
-                    made: &state.made,
-                };
-                propositions.first_side(r, node)
+                self.propositions(&state.made).first_side(r, node)
             }
             Kind::ProjectSnd => {
                 let r = self.infer(state, first, node + 1);
-                let propositions = Propositions {
-                    code: self.code,
-                    made: &state.made,
-                };
-                propositions.second_side(r, node)
+                self.propositions(&state.made).second_side(r, node)
             }
             Kind::Application => self.infer_application(state, m, node),
             Kind::TypeAscription => {
@@ -315,10 +313,7 @@ impl Terms<'_> {
     {
         let first = field(self.records, m, FIRST);
         let inferred = self.infer(state, first, node + 1);
-        let propositions = Propositions {
-            code: self.code,
-            made: &state.made,
-        };
+        let propositions = self.propositions(&state.made);
         let p = propositions.expect(inferred, Connective::Impl, node);
         if STOPS <= p {
             return p;
@@ -379,11 +374,9 @@ impl Terms<'_> {
     {
         let first = field(self.records, m, FIRST);
         let inferred = self.infer(state, first, node + 1);
-        let propositions = Propositions {
-            code: self.code,
-            made: &state.made,
-        };
-        let h = propositions.expect(inferred, Connective::Or, node);
+        let h = self
+            .propositions(&state.made)
+            .expect(inferred, Connective::Or, node);
         if STOPS <= h {
             return h;
         }
@@ -401,10 +394,6 @@ impl Terms<'_> {
         let hidden = self.bind(&mut state.scope, m, RIGHT_NAME, side);
         let r = self.infer(state, third, last);
         self.unbind(&mut state.scope, m, RIGHT_NAME, hidden);
-        let propositions = Propositions {
-            code: self.code,
-            made: &state.made,
-        };
-        propositions.agree(r, q, node, q)
+        self.propositions(&state.made).agree(r, q, node, q)
     }
 }

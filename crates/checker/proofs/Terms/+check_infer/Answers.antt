@@ -3,7 +3,7 @@
 use mathlib.Core.Path.{refl, sym, ◌∙◌}
 use native.Mathlib.Omega.{arith}
 use Rattle.prop_numbers.proofs.Halves.{expected_space}
-use Rattle.checker.proofs.Steps.{node_low, known_stood}
+use Rattle.checker.proofs.Steps.{node_low, known_stood, expected_here}
 use Rattle.checker.proofs.Fallback.{falls}
 use Rattle.checker.proofs.Cases as cases
 use Rattle.checker.proofs.CheckArms as arms
@@ -44,16 +44,17 @@ check-check-requires-in-Abort t c =
 
 pub check-agree-requires : goal.check-agree-requires
 check-agree-requires t c =
-    record {
+    rw (c.propositions.ensures.0, c.propositions.ensures.1)
+    (record {
       code_len_bound = (c.requires.0.ends.space, c.infer-r.ensures.kept.long ∙ c.requires.0.slots, node_low c.requires.0);
       known = (arms.fall_known c.requires.0 c.requires.1 c.field-first.ensures.0 c.infer-r.ensures, known_stood c.requires.1);
-    }
+    })
 
 pub check-returns-in-Ident : goal.check-returns-in-Ident
 check-returns-in-Ident t c =
     arms.fall_done c.requires.0 c.requires.1 c.field-first.ensures.0 c.infer-r.ensures
     (falls (c.requires.0.well _ (omega arith)) c.field-first.ensures.0 (rw c.kind_at-kind.ensures at c.in-Ident.is))
-    c.agree.ensures
+    (rw (c.propositions.ensures.0, c.propositions.ensures.1) at c.agree.ensures)
 
 pub check-side_of-side-requires : goal.check-side_of-side-requires
 check-side_of-side-requires t c = (c.requires.1, c.requires.0.ends.space, node_low c.requires.0)
@@ -145,11 +146,12 @@ check_case-infer-inferred-requires t c =
 
 pub check_case-expect-h-requires : goal.check_case-expect-h-requires
 check_case-expect-h-requires t c =
-    (cases.head_space c.requires.ready.0 c.field-first.ensures.0 c.requires.kind c.infer-inferred.ensures, node_low c.requires.ready.0)
+    rw (c.propositions.ensures.0, c.propositions.ensures.1)
+    ((cases.head_space c.requires.ready.0 c.field-first.ensures.0 c.requires.kind c.infer-inferred.ensures, node_low c.requires.ready.0))
 
 pub check_case-returns-then-h-ge-STOPS : goal.check_case-returns-then-h-ge-STOPS
 check_case-returns-then-h-ge-STOPS t c =
-    arms.case_stop c.requires.ready.0 c.requires.ready.1 c.field-first.ensures.0 c.requires.kind c.infer-inferred.ensures c.expect-h.ensures c.if-h-ge-STOPS.true
+    arms.case_stop c.requires.ready.0 c.requires.ready.1 c.field-first.ensures.0 c.requires.kind c.infer-inferred.ensures (expected_here c.propositions.ensures c.expect-h.ensures) c.if-h-ge-STOPS.true
 
 pub check_case-after-next-requires : goal.check_case-after-next-requires
 check_case-after-next-requires t c =
@@ -157,12 +159,15 @@ check_case-after-next-requires t c =
 
 pub check_case-bind-hidden-requires : goal.check_case-bind-hidden-requires
 check_case-bind-hidden-requires t c =
-    let e = c.requires.kind in
-    (cases.left_name c.requires.ready.0 c.field-first.ensures.0 e, (cases.left_stood c.requires.ready.0 c.field-first.ensures.0 c.requires.kind c.infer-inferred.ensures c.expect-h.ensures c.if-h-ge-STOPS.false).low)
+    let e = c.requires.kind in (
+      cases.left_name c.requires.ready.0 c.field-first.ensures.0 e,
+      (cases.left_stood c.requires.ready.0 c.field-first.ensures.0 c.requires.kind c.infer-inferred.ensures
+          (expected_here c.propositions.ensures c.expect-h.ensures) c.if-h-ge-STOPS.false).low,
+    )
 
 pub check_case-check-r-requires : goal.check_case-check-r-requires
 check_case-check-r-requires t c =
-    let call = cases.left_call c.requires.ready.0 c.field-first.ensures.0 c.requires.kind c.infer-inferred.ensures c.expect-h.ensures c.if-h-ge-STOPS.false
+    let call = cases.left_call c.requires.ready.0 c.field-first.ensures.0 c.requires.kind c.infer-inferred.ensures (expected_here c.propositions.ensures c.expect-h.ensures) c.if-h-ge-STOPS.false
     c.field-second.ensures.0 c.after-next.ensures c.bind-hidden.ensures in
     (omega (arith, c.decreases, call.less), (call.ready, c.requires.ready.1))
 
@@ -171,27 +176,30 @@ check_case-unbind-requires t c = cases.left_name c.requires.ready.0 c.field-firs
 
 pub check_case-returns-then-r-ne0 : goal.check_case-returns-then-r-ne0
 check_case-returns-then-r-ne0 t c =
-    arms.case_fail c.requires.ready.0 c.requires.ready.1 c.field-first.ensures.0 c.requires.kind c.infer-inferred.ensures c.expect-h.ensures c.if-h-ge-STOPS.false
+    arms.case_fail c.requires.ready.0 c.requires.ready.1 c.field-first.ensures.0 c.requires.kind c.infer-inferred.ensures (expected_here c.propositions.ensures c.expect-h.ensures) c.if-h-ge-STOPS.false
     c.field-second.ensures.0 c.after-next.ensures c.bind-hidden.ensures c.check-r.ensures c.unbind.ensures c.if-r-ne0.true
 
 pub check_case-after-last-requires : goal.check_case-after-last-requires
 check_case-after-last-requires t c =
-    cases.left_few c.requires.ready.0 c.field-first.ensures.0 c.requires.kind c.infer-inferred.ensures c.expect-h.ensures c.if-h-ge-STOPS.false
+    cases.left_few c.requires.ready.0 c.field-first.ensures.0 c.requires.kind c.infer-inferred.ensures (expected_here c.propositions.ensures c.expect-h.ensures) c.if-h-ge-STOPS.false
     c.field-second.ensures.0 c.after-next.ensures
 
 pub check_case-scan-side-requires : goal.check_case-scan-side-requires
 check_case-scan-side-requires t c =
-    cases.inside_code c.requires.ready.0 c.field-first.ensures.0 c.requires.kind c.infer-inferred.ensures c.expect-h.ensures c.if-h-ge-STOPS.false
+    cases.inside_code c.requires.ready.0 c.field-first.ensures.0 c.requires.kind c.infer-inferred.ensures (expected_here c.propositions.ensures c.expect-h.ensures) c.if-h-ge-STOPS.false
 
 pub check_case-bind-hidden-requires-2 : goal.check_case-bind-hidden-requires-2
 check_case-bind-hidden-requires-2 t c =
     let e = c.requires.kind in
-    let l = c.if-h-ge-STOPS.false in
-    (cases.right_name c.requires.ready.0 c.field-first.ensures.0 e, (cases.sides c.requires.ready.0 c.field-first.ensures.0 e c.infer-inferred.ensures c.expect-h.ensures l c.scan-side.ensures).right.low)
+    let l = c.if-h-ge-STOPS.false in (
+      cases.right_name c.requires.ready.0 c.field-first.ensures.0 e,
+      (cases.sides c.requires.ready.0 c.field-first.ensures.0 e c.infer-inferred.ensures
+          (expected_here c.propositions.ensures c.expect-h.ensures) l c.scan-side.ensures).right.low,
+    )
 
 pub check_case-check-r-requires-2 : goal.check_case-check-r-requires-2
 check_case-check-r-requires-2 t c =
-    let call = cases.right_call c.requires.ready.0 c.field-first.ensures.0 c.requires.kind c.infer-inferred.ensures c.expect-h.ensures c.if-h-ge-STOPS.false
+    let call = cases.right_call c.requires.ready.0 c.field-first.ensures.0 c.requires.kind c.infer-inferred.ensures (expected_here c.propositions.ensures c.expect-h.ensures) c.if-h-ge-STOPS.false
     c.field-second.ensures.0 c.after-next.ensures c.bind-hidden.ensures c.check-r.ensures.same c.check-r.ensures.kept c.unbind.ensures
     c.field-third.ensures.0 c.after-last.ensures c.scan-side.ensures c.bind-hidden-2.ensures in
     (omega (arith, c.decreases, call.less), (call.ready, c.requires.ready.1))
@@ -201,7 +209,7 @@ check_case-unbind-requires-2 t c = cases.right_name c.requires.ready.0 c.field-f
 
 pub check_case-returns : goal.check_case-returns
 check_case-returns t c =
-    arms.case_done c.requires.ready.0 c.requires.ready.1 c.field-first.ensures.0 c.requires.kind c.infer-inferred.ensures c.expect-h.ensures c.if-h-ge-STOPS.false
+    arms.case_done c.requires.ready.0 c.requires.ready.1 c.field-first.ensures.0 c.requires.kind c.infer-inferred.ensures (expected_here c.propositions.ensures c.expect-h.ensures) c.if-h-ge-STOPS.false
     c.field-second.ensures.0 c.after-next.ensures c.bind-hidden.ensures c.check-r.ensures c.unbind.ensures c.if-r-ne0.false
     c.field-third.ensures.0 c.after-last.ensures c.scan-side.ensures c.bind-hidden-2.ensures c.check-r-2.ensures c.unbind-2.ensures
 
@@ -221,11 +229,13 @@ infer-infer-r-requires t c =
 
 pub infer-first_side-requires : goal.infer-first_side-requires
 infer-first_side-requires t c =
-    (inferring.fst_space c.requires c.field-first.ensures.0 c.infer-r.ensures (sym c.kind_at-kind.ensures ∙ c.in-ProjectFst.is), node_low c.requires)
+    rw (c.propositions.ensures.0, c.propositions.ensures.1)
+    ((inferring.fst_space c.requires c.field-first.ensures.0 c.infer-r.ensures (sym c.kind_at-kind.ensures ∙ c.in-ProjectFst.is), node_low c.requires))
 
 pub infer-returns-in-ProjectFst : goal.infer-returns-in-ProjectFst
 infer-returns-in-ProjectFst t c =
-    inferring.fst_done c.requires c.field-first.ensures.0 c.infer-r.ensures (sym c.kind_at-kind.ensures ∙ c.in-ProjectFst.is) c.first_side.ensures
+    inferring.fst_done c.requires c.field-first.ensures.0 c.infer-r.ensures (sym c.kind_at-kind.ensures ∙ c.in-ProjectFst.is)
+    (rw (c.propositions.ensures.0, c.propositions.ensures.1) at c.first_side.ensures)
 
 pub infer-infer-r-requires-in-ProjectSnd : goal.infer-infer-r-requires-in-ProjectSnd
 infer-infer-r-requires-in-ProjectSnd t c =
@@ -234,11 +244,13 @@ infer-infer-r-requires-in-ProjectSnd t c =
 
 pub infer-second_side-requires : goal.infer-second_side-requires
 infer-second_side-requires t c =
-    (inferring.snd_space c.requires c.field-first.ensures.0 c.infer-r-in-ProjectSnd.ensures (sym c.kind_at-kind.ensures ∙ c.in-ProjectSnd.is), node_low c.requires)
+    rw (c.propositions-in-ProjectSnd.ensures.0, c.propositions-in-ProjectSnd.ensures.1)
+    ((inferring.snd_space c.requires c.field-first.ensures.0 c.infer-r-in-ProjectSnd.ensures (sym c.kind_at-kind.ensures ∙ c.in-ProjectSnd.is), node_low c.requires))
 
 pub infer-returns-in-ProjectSnd : goal.infer-returns-in-ProjectSnd
 infer-returns-in-ProjectSnd t c =
-    inferring.snd_done c.requires c.field-first.ensures.0 c.infer-r-in-ProjectSnd.ensures (sym c.kind_at-kind.ensures ∙ c.in-ProjectSnd.is) c.second_side.ensures
+    inferring.snd_done c.requires c.field-first.ensures.0 c.infer-r-in-ProjectSnd.ensures (sym c.kind_at-kind.ensures ∙ c.in-ProjectSnd.is)
+    (rw (c.propositions-in-ProjectSnd.ensures.0, c.propositions-in-ProjectSnd.ensures.1) at c.second_side.ensures)
 
 pub infer-returns-then-label-ge-STOPS : goal.infer-returns-then-label-ge-STOPS
 infer-returns-then-label-ge-STOPS t c =
@@ -275,11 +287,12 @@ infer_application-infer-inferred-requires t c =
 
 pub infer_application-expect-p-requires : goal.infer_application-expect-p-requires
 infer_application-expect-p-requires t c =
-    (inferring.application_space c.requires.ready c.field-first.ensures.0 c.requires.kind c.infer-inferred.ensures, node_low c.requires.ready)
+    rw (c.propositions-propositions.ensures.0, c.propositions-propositions.ensures.1)
+    ((inferring.application_space c.requires.ready c.field-first.ensures.0 c.requires.kind c.infer-inferred.ensures, node_low c.requires.ready))
 
 pub infer_application-returns-then-p-ge-STOPS : goal.infer_application-returns-then-p-ge-STOPS
 infer_application-returns-then-p-ge-STOPS t c =
-    inferring.application_stop c.requires.ready c.field-first.ensures.0 c.requires.kind c.infer-inferred.ensures c.expect-p.ensures c.if-p-ge-STOPS.true
+    inferring.application_stop c.requires.ready c.field-first.ensures.0 c.requires.kind c.infer-inferred.ensures (expected_here c.propositions-propositions.ensures c.expect-p.ensures) c.if-p-ge-STOPS.true
 
 pub infer_application-after-next-requires : goal.infer_application-after-next-requires
 infer_application-after-next-requires t c =
@@ -287,23 +300,33 @@ infer_application-after-next-requires t c =
 
 pub infer_application-right-side-requires : goal.infer_application-right-side-requires
 infer_application-right-side-requires t c =
-    expected_space (inferring.application_space c.requires.ready c.field-first.ensures.0 c.requires.kind c.infer-inferred.ensures) c.expect-p.ensures c.if-p-ge-STOPS.false
+    rw (c.propositions-propositions.ensures.0, c.propositions-propositions.ensures.1)
+    (expected_space (inferring.application_space c.requires.ready c.field-first.ensures.0 c.requires.kind c.infer-inferred.ensures) (expected_here c.propositions-propositions.ensures c.expect-p.ensures) c.if-p-ge-STOPS.false)
 
 pub infer_application-check-r-requires : goal.infer_application-check-r-requires
 infer_application-check-r-requires t c =
+    let found = expected_here c.propositions-propositions.ensures c.expect-p.ensures in
+    let argument = rw c.propositions-propositions.ensures.1 at c.left-argument.ensures in
+    let side = rw (c.propositions-propositions.ensures.0, c.propositions-propositions.ensures.1) at c.right-side.ensures in
     let l = c.if-p-ge-STOPS.false in
-    let call = inferring.application_next c.requires.ready c.field-first.ensures.0 c.requires.kind c.infer-inferred.ensures c.expect-p.ensures l c.left-argument.ensures c.right-side.ensures
+    let call = inferring.application_next c.requires.ready c.field-first.ensures.0 c.requires.kind c.infer-inferred.ensures found l argument side
     c.field-second.ensures.0 c.after-next.ensures in
-    (omega (arith, c.decreases, call.less), (call.ready, inferring.application_argument c.requires.ready c.field-first.ensures.0 c.requires.kind c.infer-inferred.ensures c.expect-p.ensures l c.left-argument.ensures c.right-side.ensures))
+    (omega (arith, c.decreases, call.less), (call.ready, inferring.application_argument c.requires.ready c.field-first.ensures.0 c.requires.kind c.infer-inferred.ensures found l argument side))
 
 pub infer_application-returns-then-r-ne0 : goal.infer_application-returns-then-r-ne0
 infer_application-returns-then-r-ne0 t c =
-    inferring.application_done c.requires.ready c.field-first.ensures.0 c.requires.kind c.infer-inferred.ensures c.expect-p.ensures c.if-p-ge-STOPS.false c.left-argument.ensures c.right-side.ensures
+    let found = expected_here c.propositions-propositions.ensures c.expect-p.ensures in
+    let argument = rw c.propositions-propositions.ensures.1 at c.left-argument.ensures in
+    let side = rw (c.propositions-propositions.ensures.0, c.propositions-propositions.ensures.1) at c.right-side.ensures in
+    inferring.application_done c.requires.ready c.field-first.ensures.0 c.requires.kind c.infer-inferred.ensures found c.if-p-ge-STOPS.false argument side
     c.field-second.ensures.0 c.after-next.ensures c.check-r.ensures (λ other. refl) (λ ok. absurd (c.if-r-ne0.true ok))
 
 pub infer_application-returns : goal.infer_application-returns
 infer_application-returns t c =
-    inferring.application_done c.requires.ready c.field-first.ensures.0 c.requires.kind c.infer-inferred.ensures c.expect-p.ensures c.if-p-ge-STOPS.false c.left-argument.ensures c.right-side.ensures
+    let found = expected_here c.propositions-propositions.ensures c.expect-p.ensures in
+    let argument = rw c.propositions-propositions.ensures.1 at c.left-argument.ensures in
+    let side = rw (c.propositions-propositions.ensures.0, c.propositions-propositions.ensures.1) at c.right-side.ensures in
+    inferring.application_done c.requires.ready c.field-first.ensures.0 c.requires.kind c.infer-inferred.ensures found c.if-p-ge-STOPS.false argument side
     c.field-second.ensures.0 c.after-next.ensures c.check-r.ensures (λ other. absurd (other c.if-r-ne0.false)) (λ ok. refl)
 
 -- A function.
@@ -370,23 +393,27 @@ infer_case-infer-inferred-requires t c =
 
 pub infer_case-expect-h-requires : goal.infer_case-expect-h-requires
 infer_case-expect-h-requires t c =
-    (cases.head_space c.requires.ready c.field-first.ensures.0 c.requires.kind c.infer-inferred.ensures, node_low c.requires.ready)
+    rw (c.propositions.ensures.0, c.propositions.ensures.1)
+    ((cases.head_space c.requires.ready c.field-first.ensures.0 c.requires.kind c.infer-inferred.ensures, node_low c.requires.ready))
 
 pub infer_case-returns-then-h-ge-STOPS : goal.infer_case-returns-then-h-ge-STOPS
 infer_case-returns-then-h-ge-STOPS t c =
-    inferring.case_stop c.requires.ready c.field-first.ensures.0 c.requires.kind c.infer-inferred.ensures c.expect-h.ensures c.if-h-ge-STOPS.true
+    inferring.case_stop c.requires.ready c.field-first.ensures.0 c.requires.kind c.infer-inferred.ensures (expected_here c.propositions.ensures c.expect-h.ensures) c.if-h-ge-STOPS.true
 
 pub infer_case-after-next-requires : goal.infer_case-after-next-requires
 infer_case-after-next-requires t c =
     cases.head_few c.requires.ready c.field-first.ensures.0 c.requires.kind
 
 pub infer_case-bind-hidden-requires : goal.infer_case-bind-hidden-requires
-infer_case-bind-hidden-requires t c =
-    (cases.left_name c.requires.ready c.field-first.ensures.0 c.requires.kind, (cases.left_stood c.requires.ready c.field-first.ensures.0 c.requires.kind c.infer-inferred.ensures c.expect-h.ensures c.if-h-ge-STOPS.false).low)
+infer_case-bind-hidden-requires t c = (
+  cases.left_name c.requires.ready c.field-first.ensures.0 c.requires.kind,
+  (cases.left_stood c.requires.ready c.field-first.ensures.0 c.requires.kind c.infer-inferred.ensures
+      (expected_here c.propositions.ensures c.expect-h.ensures) c.if-h-ge-STOPS.false).low,
+)
 
 pub infer_case-infer-q-requires : goal.infer_case-infer-q-requires
 infer_case-infer-q-requires t c =
-    let call = cases.left_call c.requires.ready c.field-first.ensures.0 c.requires.kind c.infer-inferred.ensures c.expect-h.ensures c.if-h-ge-STOPS.false
+    let call = cases.left_call c.requires.ready c.field-first.ensures.0 c.requires.kind c.infer-inferred.ensures (expected_here c.propositions.ensures c.expect-h.ensures) c.if-h-ge-STOPS.false
     c.field-second.ensures.0 c.after-next.ensures c.bind-hidden.ensures in
     (omega (arith, c.decreases, call.less), call.ready)
 
@@ -395,26 +422,29 @@ infer_case-unbind-requires t c = cases.left_name c.requires.ready c.field-first.
 
 pub infer_case-returns-then-q-ge-STOPS : goal.infer_case-returns-then-q-ge-STOPS
 infer_case-returns-then-q-ge-STOPS t c =
-    inferring.case_left_stop c.requires.ready c.field-first.ensures.0 c.requires.kind c.infer-inferred.ensures c.expect-h.ensures c.if-h-ge-STOPS.false
+    inferring.case_left_stop c.requires.ready c.field-first.ensures.0 c.requires.kind c.infer-inferred.ensures (expected_here c.propositions.ensures c.expect-h.ensures) c.if-h-ge-STOPS.false
     c.field-second.ensures.0 c.after-next.ensures c.bind-hidden.ensures c.infer-q.ensures c.unbind.ensures c.if-q-ge-STOPS.true
 
 pub infer_case-after-last-requires : goal.infer_case-after-last-requires
 infer_case-after-last-requires t c =
-    cases.left_few c.requires.ready c.field-first.ensures.0 c.requires.kind c.infer-inferred.ensures c.expect-h.ensures c.if-h-ge-STOPS.false
+    cases.left_few c.requires.ready c.field-first.ensures.0 c.requires.kind c.infer-inferred.ensures (expected_here c.propositions.ensures c.expect-h.ensures) c.if-h-ge-STOPS.false
     c.field-second.ensures.0 c.after-next.ensures
 
 pub infer_case-scan-side-requires : goal.infer_case-scan-side-requires
 infer_case-scan-side-requires t c =
-    cases.inside_code c.requires.ready c.field-first.ensures.0 c.requires.kind c.infer-inferred.ensures c.expect-h.ensures c.if-h-ge-STOPS.false
+    cases.inside_code c.requires.ready c.field-first.ensures.0 c.requires.kind c.infer-inferred.ensures (expected_here c.propositions.ensures c.expect-h.ensures) c.if-h-ge-STOPS.false
 
 pub infer_case-bind-hidden-requires-2 : goal.infer_case-bind-hidden-requires-2
 infer_case-bind-hidden-requires-2 t c =
-    let l = c.if-h-ge-STOPS.false in
-    (cases.right_name c.requires.ready c.field-first.ensures.0 c.requires.kind, (cases.sides c.requires.ready c.field-first.ensures.0 c.requires.kind c.infer-inferred.ensures c.expect-h.ensures l c.scan-side.ensures).right.low)
+    let l = c.if-h-ge-STOPS.false in (
+      cases.right_name c.requires.ready c.field-first.ensures.0 c.requires.kind,
+      (cases.sides c.requires.ready c.field-first.ensures.0 c.requires.kind c.infer-inferred.ensures
+          (expected_here c.propositions.ensures c.expect-h.ensures) l c.scan-side.ensures).right.low,
+    )
 
 pub infer_case-infer-r-requires : goal.infer_case-infer-r-requires
 infer_case-infer-r-requires t c =
-    let call = cases.right_call c.requires.ready c.field-first.ensures.0 c.requires.kind c.infer-inferred.ensures c.expect-h.ensures c.if-h-ge-STOPS.false
+    let call = cases.right_call c.requires.ready c.field-first.ensures.0 c.requires.kind c.infer-inferred.ensures (expected_here c.propositions.ensures c.expect-h.ensures) c.if-h-ge-STOPS.false
     c.field-second.ensures.0 c.after-next.ensures c.bind-hidden.ensures c.infer-q.ensures.same c.infer-q.ensures.kept c.unbind.ensures
     c.field-third.ensures.0 c.after-last.ensures c.scan-side.ensures c.bind-hidden-2.ensures in
     (omega (arith, c.decreases, call.less), call.ready)
@@ -424,20 +454,22 @@ infer_case-unbind-requires-2 t c = cases.right_name c.requires.ready c.field-fir
 
 pub infer_case-agree-requires : goal.infer_case-agree-requires
 infer_case-agree-requires t c =
-    let slots = c.infer-r.ensures.kept.long ∙ c.infer-q.ensures.kept.long ∙ c.infer-inferred.ensures.kept.long ∙ c.requires.ready.slots in record {
+    rw (c.propositions-2.ensures.0, c.propositions-2.ensures.1)
+    (let slots = c.infer-r.ensures.kept.long ∙ c.infer-q.ensures.kept.long ∙ c.infer-inferred.ensures.kept.long ∙ c.requires.ready.slots in record {
       code_len_bound = (c.requires.ready.ends.space, slots, node_low c.requires.ready);
       known = (
-        inferring.case_right_known c.requires.ready c.field-first.ensures.0 c.requires.kind c.infer-inferred.ensures c.expect-h.ensures c.if-h-ge-STOPS.false
+        inferring.case_right_known c.requires.ready c.field-first.ensures.0 c.requires.kind c.infer-inferred.ensures (expected_here c.propositions.ensures c.expect-h.ensures) c.if-h-ge-STOPS.false
             c.field-second.ensures.0 c.after-next.ensures c.bind-hidden.ensures c.infer-q.ensures c.unbind.ensures c.if-q-ge-STOPS.false
             c.field-third.ensures.0 c.after-last.ensures c.scan-side.ensures c.bind-hidden-2.ensures c.infer-r.ensures c.unbind-2.ensures,
-        inferring.case_left_known c.requires.ready c.field-first.ensures.0 c.requires.kind c.infer-inferred.ensures c.expect-h.ensures c.if-h-ge-STOPS.false
+        inferring.case_left_known c.requires.ready c.field-first.ensures.0 c.requires.kind c.infer-inferred.ensures (expected_here c.propositions.ensures c.expect-h.ensures) c.if-h-ge-STOPS.false
             c.field-second.ensures.0 c.after-next.ensures c.bind-hidden.ensures c.infer-q.ensures c.unbind.ensures c.if-q-ge-STOPS.false
             c.field-third.ensures.0 c.after-last.ensures c.scan-side.ensures c.bind-hidden-2.ensures c.infer-r.ensures c.unbind-2.ensures,
       );
-    }
+    })
 
 pub infer_case-returns : goal.infer_case-returns
 infer_case-returns t c =
-    inferring.case_done c.requires.ready c.field-first.ensures.0 c.requires.kind c.infer-inferred.ensures c.expect-h.ensures c.if-h-ge-STOPS.false
+    inferring.case_done c.requires.ready c.field-first.ensures.0 c.requires.kind c.infer-inferred.ensures (expected_here c.propositions.ensures c.expect-h.ensures) c.if-h-ge-STOPS.false
     c.field-second.ensures.0 c.after-next.ensures c.bind-hidden.ensures c.infer-q.ensures c.unbind.ensures c.if-q-ge-STOPS.false
-    c.field-third.ensures.0 c.after-last.ensures c.scan-side.ensures c.bind-hidden-2.ensures c.infer-r.ensures c.unbind-2.ensures c.agree.ensures
+    c.field-third.ensures.0 c.after-last.ensures c.scan-side.ensures c.bind-hidden-2.ensures c.infer-r.ensures c.unbind-2.ensures
+    (rw (c.propositions-2.ensures.0, c.propositions-2.ensures.1) at c.agree.ensures)
