@@ -121,7 +121,7 @@ module _ (earlier : List (Bor (List ℕ))) (x : Name) (good : bad_names (names_o
       in_names [] = refl
       in_names (a ∷ slices) = ap (λ t. eq_name a.now x || t) (in_names slices)
 
--- what an iterator has given, what it gives next, and what it gave in all
+-- what an iterator has given, and what it gives next
 module _ {S A B : Type 0} (steps : S → Option A → S → Type 0) (v : A → B) where
   fronts : (xs : List A) (all : List B) (s t : S) → AlwaysYields steps v s all → Yields steps s xs t
       → (rest : List B) × (all ≡ map v xs ++ rest) × AlwaysYields steps v t rest
@@ -136,19 +136,12 @@ module _ {S A B : Type 0} (steps : S → Option A → S → Type 0) (v : A → B
   more [] s u x a y = absurd (a x u y)
   more (z ∷ all) s u x a y = (all, ap (λ b. b ∷ all) (sym (a.1 x u y).0))
 
-  over : (given left : List B) (s u : S) → AlwaysYields steps v s left → steps s None u → given ++ left ≡ given
-  over given [] s u a y = append-nil given
-  over given (z ∷ left) s u a y = absurd (a.0 u y)
-
   module _ (xs : List A) (all : List B) (s t u : S) (split : YieldsList steps v s all) (given : Yields steps s xs t) where
     pub next_given : (x : A) → steps t (Some x) u → (rest : List B) × (all ≡ (map v xs ++ (v x ∷ [])) ++ rest)
     next_given x z =
         let (left, is, later) = fronts xs all s t split.runs given in
         let (rest, begins) = more left t u x later z in
         (rest, is ∙ (ap (λ l. map v xs ++ l) begins ∙ sym (append_assoc (map v xs) (v x ∷ []) rest)))
-
-    pub all_given : steps t None u → all ≡ map v xs
-    all_given z = let (left, is, later) = fronts xs all s t split.runs given in is ∙ over (map v xs) left t u later z
 
 -- a front that may not be asked about
 pub refused : (text : List ℕ) (names rest : List Name) → names_in text ≡ names ++ rest → bad_names names ≡ true → None ≡ count_of (names_in text)

@@ -1,5 +1,6 @@
 -- Each name is judged behind those before it.
-use mathlib.Core.Path.{◌≡◌, refl, ap, ◌∙◌}
+use mathlib.Core.Path.{◌≡◌, refl, sym, ap, ◌∙◌}
+use Rattle.std.specs.Prelude.{None}
 use mathlib.Core.Bool.{false}
 use mathlib.Core.List.{[], ◌∷◌, ◌++◌}
 use Prim.Native.Nat.{◌<◌}
@@ -8,11 +9,11 @@ use native.Mathlib.Numerals.{add-one}
 use lib.ListN.{length, length-append}
 use borrow.Author.Rules.{rules}
 use Rattle.std.proofs.Math.Seq.{take-suc-set}
-use Rattle.std.proofs.lemmas.Iterator.Consumers.{YieldsList-from_first}
+use Rattle.std.proofs.lemmas.Iterator.Consumers.{YieldsList-from_first, YieldsList-end}
 use Rattle.caller_names.specs.Left.{names_left}
 use Rattle.definitions.specs.CallerNames.{all_well_formed}
 use Rattle.definitions.specs.Exercises.{repeated, exercise_name_limit, bad_names}
-use Rattle.exercises.proofs.Counting.{next_given, all_given, refused, counted, verdict, room, names_more}
+use Rattle.exercises.proofs.Counting.{next_given, refused, counted, verdict, room, names_more}
 use Rattle.exercises.specs.Names.{names_of, with_name}
 use Rattle.exercises.proofs.names.count_names.Goals as goal
 use Rattle.exercises.proofs.names.count_names.Goals.{Else-not-may_follow}
@@ -54,4 +55,4 @@ pub returns : goal.returns
 returns c =
     let l = c.loop-name in
     let split = YieldsList-from_first (λ name. name.now) names_left _ (search rules) in
-    counted c.args.text.now l.yielded l.count (all_given _ _ _ _ _ _ c.next.new.self split l.yielded_by c.in-None.ensures.steps) l.invariant.good l.invariant.all
+    counted c.args.text.now l.yielded l.count (sym (YieldsList-end split _ _ l.yielded_by None c.next.new.self refl c.in-None.ensures.steps).0) l.invariant.good l.invariant.all
