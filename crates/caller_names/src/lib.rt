@@ -34,6 +34,7 @@ impl<'a> Iterator for Names<'a> {
 
     ghost remaining = { item_count names_left };
 
+    #[tactic(auto, unfolding(crate::specs::Left::pieces_of))]
     fn next(&mut self) -> Option<&'a [u8]> {
         let rest = self.rest?;
         let Some(end) = rest.iter().position(|b| *b == NEWLINE) else {
@@ -46,6 +47,7 @@ impl<'a> Iterator for Names<'a> {
 }
 
 // The names of a list. No bytes are no names.
+#[tactic(auto, using(crate::proofs::Pieces::no_names, crate::proofs::Pieces::names_pieces), unfolding(crate::specs::Left::pieces_of))]
 pub fn names_in(list: &[u8]) -> Names
     ensures { names_left result ≡ names_in list.now }
 {

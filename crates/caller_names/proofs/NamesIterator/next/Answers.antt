@@ -11,10 +11,6 @@ use Rattle.caller_names.specs.Left.{pieces_of, names_left}
 use Rattle.caller_names.proofs.Pieces.{first_piece, only_piece}
 use Rattle.caller_names.proofs.NamesIterator.next.Goals as goal
 
-pub returns-in_err-rest-clause-steps : goal.returns-in_err-rest-clause-steps
-unfolding pieces_of
-returns-in_err-rest-clause-steps c = search rules
-
 -- without a newline there is one piece
 only : (c : goal.After-self-1) → names_left c.args.self.now ≡ c.in_ok-rest.rest.now ∷ []
 unfolding pieces_of
