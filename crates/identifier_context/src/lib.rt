@@ -67,7 +67,7 @@ impl Context<'_> {
     }
 
     // Whether a lookup admits the entry of an index.
-    #[tactic(auto, using(crate::proofs::Lookups::admits_name), unfolding(crate::specs::Memory::entry_at))]
+    #[tactic(auto, using(crate::proofs::Lookups::admits_name, crate::proofs::Lookups::admits_identifier, crate::proofs::Lookups::admits_no_other_id), unfolding(crate::specs::Memory::entry_at))]
     fn admits(&self, i: usize, lookup: Lookup) -> bool
         requires { (i < length self.now.entries.now)
             × IsNamed self.now (name_at self.now.entries.now i)
@@ -137,6 +137,7 @@ impl Context<'_> {
     }
 
     // Whether no later entry has the name of the entry of an index.
+    #[tactic(auto, using(crate::proofs::Visibility::visible_at), unfolding(crate::specs::Memory::entry_at))]
     fn is_visible(&self, i: usize) -> bool
         requires { IsHeld self.now × (i < self.now.«len») }
         ensures { result ≡ is_visible (name_in self.now) self.now.entries.now self.now.«len» i }
