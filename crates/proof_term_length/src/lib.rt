@@ -5,7 +5,8 @@ ghost use Rattle.std.specs.Prelude.{◌≡◌, List, ℕ, ◌+◌, ◌*◌, ◌�
 ghost use Rattle.proof_term.specs.Records.{record_size};
 ghost use Rattle.prop.specs.Printing.{prop_text, Printable};
 ghost use Rattle.prop_length.specs.Length.{TextLength};
-ghost use Rattle.proof_term_length.specs.Measure.{seen, make_row, row_of, total, name_size, part_size, term_length, own_label_length, Agrees, Measurable, AllNamed, MeasuredBelow, Known};
+ghost use Rattle.proof_term_length.specs.Measure.{seen, make_row, row_of, total, term_length, Agrees, Measurable, Known};
+ghost use Rattle.proof_term_length.specs.OfMeasure.{Held, HasNames, LengthsBelow, CanMeasure, size_of_name, size_of_part, label_size, text_size};
 
 use TermPart::{
     Argument, AscribedBody, First, Function, NamedBody, PairFirst, PairSecond, Second, Third,
@@ -87,73 +88,6 @@ fn total<T: Copy + Drop, F: Fn(T) -> usize>(items: &[T], cap: usize, length_of: 
     length
 }
 
-// Records, memory, vocabulary, lengths, style and cap stand loose in what follows: five of the functions take each a part of them, and
-// what they ask for speaks of one record, memory or table at a time.
-
-// The length of the name in a number of record `n`. A number of no name stands for no byte.
-fn name_in(records: &[u16], n: usize, number: usize, bytes: &[u8], v: Vocabulary) -> usize
-    requires n_in_bounds { (record_size * (n + 1) ≤ length records.now) × (number < record_size) }
-    requires all_named { AllNamed bytes.now v }
-    ensures { result ≡ name_size bytes.now v records.now n number }
-{
-    let name = field(records, n, number);
-    if v.name_count <= name {
-        return 0;
-    }
-    name_length(bytes, v, name)
-}
-
-// The length of a part of record `n`, in brackets where its position asks for them, by the lengths of the records before.
-fn part_in(
-    records: &[u16],
-    n: usize,
-    part: TermPart,
-    lengths: &[usize; RECORD_LIMIT],
-    style: Style,
-    cap: usize,
-) -> usize
-    requires { (record_size * (n + 1) ≤ length records.now) × (n < 2048) }
-    ensures { (bytes : List ℕ) (v : Vocabulary) →
-        MeasuredBelow bytes v records.now style cap lengths.now n →
-        Agrees cap result (part_size bytes v records.now n style part) }
-{
-    let number = field(records, n, part.field());
-    if n <= number {
-        return UNIT_LENGTH;
-    }
-    if is_bracketed(records, number, part.position(), style) {
-        return sum(BRACKETS, lengths[number], cap);
-    }
-    lengths[number]
-}
-
-// The length of record `n`'s text but for its label.
-fn bare_length(
-    records: &[u16],
-    n: usize,
-    bytes: &[u8],
-    v: Vocabulary,
-    lengths: &[usize; RECORD_LIMIT],
-    style: Style,
-    cap: usize,
-) -> usize
-    requires n_in_bounds { (record_size * (n + 1) ≤ length records.now) × (n < 2048) }
-    requires all_named { AllNamed bytes.now v }
-    requires measured_below { MeasuredBelow bytes.now v records.now style cap lengths.now n }
-    ensures { Agrees cap (result + own_label_length bytes.now v records.now n)
-        (term_length bytes.now v records.now style n) }
-{
-    let row = row_of(kind_at(records, n));
-    let names = total(row.names, cap, |number| {
-        name_in(records, n, number, bytes, v)
-    });
-    let parts = total(row.parts, cap, |part| {
-        part_in(records, n, part, lengths, style, cap)
-    });
-    let rest = sum(names, parts, cap);
-    sum(row.own, rest, cap)
-}
-
 // The length of the text of the proposition at `at`, which is found out once, unless a label 4,096 bytes away takes turns with it.
 // An entry is twice a length, and one more for an offset in the upper half of the code: a struct of both would take twice the memory, which
 // lies in the frame of the deepest printing.
@@ -180,25 +114,76 @@ fn known_length(
     length
 }
 
-// What record `n`'s label adds, if it has one: a colon, a blank and the label.
-fn label_length(
-    records: &[u16],
-    n: usize,
-    bytes: &[u8],
+// What a term's text is measured by: its records, the memory of its names and propositions, the style, and the cap.
+#[derive(Clone, Copy)]
+struct Measure<'a> {
+    records: &'a [u16],
+    bytes: &'a [u8],
     v: Vocabulary,
-    ends: &[u16],
-    known: &mut [u32; KNOWN_LIMIT],
-) -> usize
-    requires measurable { Measurable records.now n bytes.now v ends.now }
-    requires known { Known bytes.now v known.old }
-    ensures { (result ≡ own_label_length bytes.now v records.now n)
-        × Known bytes.now v known.new }
-{
-    match node_at(records, n).label() {
-        None => 0,
-        Some(Label::Datatype(name)) => COLON + name_length(bytes, v, usize::from(name)),
-        Some(Label::Proposition(at)) => {
-            COLON + known_length(bytes, v, ends, usize::from(at), known)
+    ends: &'a [u16],
+    style: Style,
+    cap: usize,
+}
+
+impl Measure<'_> {
+    // The length of the name in a number of record `n`. A number of no name stands for no byte.
+    fn name_in(&self, n: usize, number: usize) -> usize
+        requires held { Held self.now n × (number < record_size) }
+        requires all_named { HasNames self.now }
+        ensures { result ≡ size_of_name self.now n number }
+    {
+        let name = field(self.records, n, number);
+        if self.v.name_count <= name {
+            return 0;
+        }
+        name_length(self.bytes, self.v, name)
+    }
+
+    // The length of a part of record `n`, in brackets where its position asks for them, by the lengths of the records before.
+    fn part_in(&self, n: usize, part: TermPart, lengths: &[usize; RECORD_LIMIT]) -> usize
+        requires held { Held self.now n }
+        requires measured_below { LengthsBelow self.now lengths.now n }
+        ensures { Agrees self.now.cap result (size_of_part self.now n part) }
+    {
+        let number = field(self.records, n, part.field());
+        if n <= number {
+            return UNIT_LENGTH;
+        }
+        if is_bracketed(self.records, number, part.position(), self.style) {
+            return sum(BRACKETS, lengths[number], self.cap);
+        }
+        lengths[number]
+    }
+
+    // The length of record `n`'s text but for its label.
+    fn bare_length(&self, n: usize, lengths: &[usize; RECORD_LIMIT]) -> usize
+        requires held { Held self.now n }
+        requires all_named { HasNames self.now }
+        requires measured_below { LengthsBelow self.now lengths.now n }
+        ensures { Agrees self.now.cap (result + label_size self.now n) (text_size self.now n) }
+    {
+        let row = row_of(kind_at(self.records, n));
+        let names = total(row.names, self.cap, |number| self.name_in(n, number));
+        let parts = total(row.parts, self.cap, |part| self.part_in(n, part, lengths));
+        let rest = sum(names, parts, self.cap);
+        sum(row.own, rest, self.cap)
+    }
+
+    // What record `n`'s label adds, if it has one: a colon, a blank and the label.
+    fn label_length(&self, n: usize, known: &mut [u32; KNOWN_LIMIT]) -> usize
+        requires measurable { CanMeasure self.now n }
+        requires known { Known self.now.bytes.now self.now.v known.old }
+        ensures { (result ≡ label_size self.now n)
+            × Known self.now.bytes.now self.now.v known.new }
+    {
+        match node_at(self.records, n).label() {
+            None => 0,
+            Some(Label::Datatype(name)) => {
+                COLON + name_length(self.bytes, self.v, usize::from(name))
+            }
+            Some(Label::Proposition(at)) => {
+                COLON + known_length(self.bytes, self.v, self.ends, usize::from(at), known)
+            }
         }
     }
 }
@@ -216,11 +201,19 @@ pub fn term_length(
     requires { Measurable records.now n bytes.now v ends.now }
     ensures { result ≡ min (term_length bytes.now v records.now style n) cap }
 {
+    let measure = Measure {
+        records,
+        bytes,
+        v,
+        ends,
+        style,
+        cap,
+    };
     let mut known = [0u32; KNOWN_LIMIT];
     let mut lengths = [0usize; RECORD_LIMIT];
     for m in 0..=n {
-        let bare = bare_length(records, m, bytes, v, &lengths, style, cap);
-        let label = label_length(records, m, bytes, v, ends, &mut known);
+        let bare = measure.bare_length(m, &lengths);
+        let label = measure.label_length(m, &mut known);
         lengths[m] = sum(bare, label, cap);
     }
     lengths[n]

@@ -6,4 +6,4 @@ use Rattle.proof_term_length.proofs.term_length.Given as goal
 
 abbrev pub invariant-loop-m : goal.invariant-loop-m
 invariant-loop-m l =
-    (length l.lengths ≡ 2048) × MeasuredBelow l.bytes l.v l.records l.style l.cap l.lengths l.m × Known l.bytes l.v l.known
+    (length l.lengths ≡ 2048) × MeasuredBelow l.bytes l.fn.v l.records l.fn.style l.cap l.lengths l.m × Known l.bytes l.fn.v l.known

@@ -13,16 +13,16 @@ use Rattle.prop.specs.Printing.{prop_text, KnownIn}
 use Rattle.prop.proofs.Shown.{below_as}
 use Rattle.proof_term_display.proofs.Labels.{datatype_text, proposition_text}
 use Rattle.proof_term_length.proofs.Counting.{label_there, label_absent}
-use Rattle.proof_term_length.proofs.label_length.Goals as goal
-use Rattle.proof_term_length.proofs.label_length.Goals.{After-label}
+use Rattle.proof_term_length.proofs.Measure.label_length.Goals as goal
+use Rattle.proof_term_length.proofs.Measure.label_length.Goals.{After-label}
 
 -- the label that was read is that of the record
-read : (c : After-label) {l : Label} → c.label.result ≡ Some l → LabelRead c.args.records.now c.args.n l
+read : (c : After-label) {l : Label} → c.label.result ≡ Some l → LabelRead c.args.self.now.records.now c.args.n l
 read c is = label_read (rw c.node_at.ensures at (sym c.label.ensures ∙ is))
 
 -- where it has one, that fits
 fits : (c : After-label) {l : Label} → c.label.result ≡ Some l → let s = c.args in
-    LabelFits s.v.name_count (KnownIn s.bytes.now s.v s.ends.now) (field_at s.records.now s.n 3) (field_at s.records.now s.n 4)
+    LabelFits s.self.now.v.name_count (KnownIn s.self.now.bytes.now s.self.now.v s.self.now.ends.now) (field_at s.self.now.records.now s.n 3) (field_at s.self.now.records.now s.n 4)
 fits c is = c.requires.measurable.labels c.args.n (omega arith) (read c is).labelled
 
 pub returns-in-None : goal.returns-in-None
@@ -32,21 +32,21 @@ pub name_length-requires : goal.name_length-requires
 name_length-requires c =
     let at = (goal.at.name_length-requires c).After-label in
     let is = c.in-Some-Datatype.is ∙ ap Some c.in-Some-Datatype.field-0-is in
-    let (datatype, name) = datatype_read (field_at c.args.records.now c.args.n 3) (field_at c.args.records.now c.args.n 4) (read at is).is in
+    let (datatype, name) = datatype_read (field_at c.args.self.now.records.now c.args.n 3) (field_at c.args.self.now.records.now c.args.n 4) (read at is).is in
     c.requires.measurable.names.named _ (below_as (c.from.ensures ∙ name) ((fits at is).datatype datatype))
 
 pub returns-in-Some-Datatype : goal.returns-in-Some-Datatype
 returns-in-Some-Datatype c =
     let its = read (goal.at.returns-in-Some-Datatype c).After-label (c.in-Some-Datatype.is ∙ ap Some c.in-Some-Datatype.field-0-is) in
-    let names = name_in c.args.bytes.now c.args.v in
-    let text = datatype_text names (prop_in c.args.bytes.now c.args.v) _ _ its.is in
+    let names = name_in c.args.self.now.bytes.now c.args.self.now.v in
+    let text = datatype_text names (prop_in c.args.self.now.bytes.now c.args.self.now.v) _ _ its.is in
     (label_there _ _ _ _ its (c.name_length.ensures.is ∙ ap length (ap names c.from.ensures ∙ text)), c.requires.known)
 
 pub known_length-requires-clause-printable : goal.known_length-requires-clause-printable
 known_length-requires-clause-printable c =
     let at = (goal.at.known_length-requires-clause-printable c).After-label in
     let is = c.in-Some-Proposition.is ∙ ap Some c.in-Some-Proposition.field-0-is in
-    let (other, number) = proposition_read (field_at c.args.records.now c.args.n 3) (field_at c.args.records.now c.args.n 4) (read at is).is in
+    let (other, number) = proposition_read (field_at c.args.self.now.records.now c.args.n 3) (field_at c.args.self.now.records.now c.args.n 4) (read at is).is in
     let known = (fits at is).proposition other in
     let names = c.requires.measurable.names in
     rw (c.from-in-Some-Proposition.ensures, number) (
@@ -57,6 +57,6 @@ known_length-requires-clause-printable c =
 pub returns-in-Some-Proposition : goal.returns-in-Some-Proposition
 returns-in-Some-Proposition c =
     let its = read (goal.at.returns-in-Some-Proposition c).After-label (c.in-Some-Proposition.is ∙ ap Some c.in-Some-Proposition.field-0-is) in
-    let text = proposition_text (name_in c.args.bytes.now c.args.v) (prop_in c.args.bytes.now c.args.v) _ _ its.is in
-    let measured = c.known_length.ensures.0.is ∙ (ap (λ k. length (prop_text c.args.bytes.now c.args.v k)) c.from-in-Some-Proposition.ensures ∙ ap length text) in
+    let text = proposition_text (name_in c.args.self.now.bytes.now c.args.self.now.v) (prop_in c.args.self.now.bytes.now c.args.self.now.v) _ _ its.is in
+    let measured = c.known_length.ensures.0.is ∙ (ap (λ k. length (prop_text c.args.self.now.bytes.now c.args.self.now.v k)) c.from-in-Some-Proposition.ensures ∙ ap length text) in
     (label_there _ _ _ _ its measured, c.known_length.ensures.1)
