@@ -292,6 +292,10 @@ fn node_of(kind: Kind, numbers: [u16; 5]) -> Node
     }
 }
 
+// Memory and number stand loose in what reads a record. A reader in another crate has the clause for one memory and goes on to another
+// number at each part (`PrintableTerm`, `Measurable`, `Judgeable`): a value of both with the clause as a ghost field would be made anew at
+// each number, by a function that asks for the same clause.
+
 // The kind of record `n`.
 pub fn kind_at(records: &[u16], n: usize) -> Kind
     requires { record_size * (n + 1) ≤ length records.now }
