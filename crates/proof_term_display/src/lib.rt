@@ -138,6 +138,8 @@ pub fn is_bracketed(records: &[u16], n: usize, position: PartPosition, style: St
 // The format of a kind. A digit stands for the name in that number of the record. A, B and C stand for the parts of a function, a case
 // or a let, D for the body of a named function, E for that of an ascription, F and G for the function and the argument of an
 // application, H and I for the parts of a pair, L for the label of a parameter, if it has one, and M for that of an ascription.
+// It is a text and no list of items: a case's would be ten values, `[Text(b"case "), Part(First), Text(b" of inl "), Name(4), ..]`, in which
+// what is printed is no longer read at a glance. The definition of the formats has the same texts and letters.
 #[tactic(auto, unfolding(crate::specs::Format::formats))]
 fn format_of(kind: Kind) -> &'static [u8]
     ensures { items result.now ≡ get_or formats (kind_number kind) [] }

@@ -1,6 +1,6 @@
 -- A part is an earlier record, and a record's items come before its term: so the number falls, and of one number first the
 -- term, then its items, then its parts. The term's text is written by the items of its format, one after the other.
-use Prim.Native.Nat.{ℕ, ◌≤◌}
+use Prim.Native.Nat.{ℕ, ◌-◌, ◌≤◌}
 use mathlib.Core.Path.{◌≡◌, sym, ap, ◌∙◌}
 use mathlib.Core.Bool.{true, false, ◌&&◌}
 use native.Mathlib.Omega.{arith}
@@ -104,7 +104,7 @@ pub put_item-name-requires : goal.put_item-name-requires
 unfolding ItemReady
 put_item-name-requires g t c =
     let below = rw (item_name c.args.b (is_name g t (goal.at.put_item-name-requires g t c).Then-is_between)) at c.requires.has_item in
-    c.requires.has_term.named _ (below_as c.field-number.ensures.0 below)
+    c.requires.has_term.named _ (below_as {b = field_at c.args.p.now.records.now c.args.n (c.args.b - 48)} c.field-number.ensures.0 below)
 
 pub put_item-returns-then-is_between : goal.put_item-returns-then-is_between
 unfolding item_text
