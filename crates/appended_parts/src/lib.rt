@@ -107,7 +107,8 @@ fn append_proposition(
     append_pair(pairs, from, before, source.len())
 }
 
-// All propositions of the donor, over the merged numbers, counted on from an offset.
+// All propositions of the donor, over the merged numbers, counted on from an offset. Any numbers will do that are as many as the donor's
+// names, so that it takes no `NumberedSheets`, which would ask that they are those of a graft.
 pub fn append_propositions(
     donor: &AdmittedSheet,
     numbers: &[u16],
