@@ -47,6 +47,9 @@ fn steps_above(host: &SizedSheet, k: usize) -> usize
         .count()
 }
 
+// Here and below host, step and donor are three parameters and no struct: what is known of the step, that the host has it, is asked by
+// two functions alone, and each clause would say `graft.now.host.now` for `host.now`.
+
 // 28, the levels: the steps above the host step and the donor's levels pass 256.
 fn too_deep(host: &SizedSheet, k: usize, donor: &SizedSheet) -> bool
     requires { k < steps host.now }
