@@ -16,8 +16,9 @@ use renumbering::put_proposition;
 use sheet::AdmittedSheet;
 use vocabulary::name;
 
-// How many pieces were appended, and how long they are together. The memories for pairs and bytes stand beside it: a struct that
-// borrowed both would carry what each holds before and after through every clause.
+// How many pieces were appended, and how long they are together. The memories for pairs and bytes stand beside it: of a struct that holds
+// a writer over each, the methods were proved, but where it ends nothing ties the two memories to what it held, as it does for one, and
+// `append_names` and `append_propositions` could not promise their bytes.
 #[derive(Default, Clone, Copy)]
 pub struct Appended {
     pub count: usize,
