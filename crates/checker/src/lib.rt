@@ -61,6 +61,10 @@ fn entry(scope: &[Option<u32>; NAMES], name: usize, node: usize) -> usize
 // compiler puts into its one caller, so that each of the 512 levels takes one frame. An answer is a number, as prop_numbers::STOPS says.
 // A record is not taken apart as a Node: its numbers would lie in the frame over the calls, 32 bytes more a level (120 for 88 in `check`,
 // 136 for 104 in `infer`, as rustc lays the same text out), and the arm of a case would have ten parameters.
+// Binding a name around one call stands six times: by a method over a closure `check` takes 136 bytes a level and `infer` 120, and each use
+// puts that method and its closure into the cycle of calls, with a measure and a contract of their own. The head of a case stands in two
+// arms: a function for it has two callers and so a frame of its own, 32 bytes a level more down a head in `check` and 16 in `infer`.
+// What every arm asks, JudgeableTerm, speaks of the state too, which each call changes, so that no ghost field beside m and node holds it.
 impl<'a> Terms<'a> {
     // The node after those of the term of record m, whose own is `node`.
     fn after(&self, m: usize, node: usize) -> usize
