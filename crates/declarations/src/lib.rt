@@ -30,7 +30,9 @@ pub struct Declaration {
     pub count: u16,
 }
 
-// Where no declarations are at hand a memory and its vocabulary stand loose, for the reason that vocabulary gives.
+// Declarations stand loose beside their memory and its vocabulary where they are written, measured and sorted: a sort changes them behind a
+// `&mut` and the others read them behind a `&`, so it would take two structs, and `text`, which measures, sorts and then writes them, would
+// show `Declared` three times to make one, as it does now at its calls.
 
 // Whether a declaration has this count and the bytes of this name. The counts are compared first, so that few names are.
 fn has(other: Declaration, name: usize, count: usize, bytes: &[u8], v: Vocabulary) -> bool
@@ -43,7 +45,8 @@ fn has(other: Declaration, name: usize, count: usize, bytes: &[u8], v: Vocabular
 }
 
 // The declarations so far: the first `len` of N rows. Whether a use was noted, by its name's number and its count. The declarations of a
-// start slot in a chain: its newest, and behind each the next older one.
+// start slot in a chain: its newest, and behind each the next older one. A link is no field of a row, since `declared` lends the rows as a
+// slice of declarations.
 #[derive(Drop)]
 pub struct Table<const N: usize> {
     rows: [Declaration; N],
