@@ -34,8 +34,8 @@ fn export(sized: &SizedSheet, terms: &mut [u16; TERM_NUMBERS]) -> Result<usize, 
 }
 
 // The sheet of any bytes and the record that holds its term, or the first of refusals 1 to 15. Where the bytes are refused, what the
-// records hold is left open. The records stay the caller's, which no value holds with their term: before it checks a term, `judgement`
-// writes other name numbers and then sizes into them.
+// records hold is left open. The records stay the caller's, since `judgement` writes other name numbers and then sizes into them before it
+// checks a term; `text` holds them with the sheet in a struct of its own.
 pub fn sheet_term<'a>(
     s: &'a [u8],
     terms: &mut [u16; TERM_NUMBERS],

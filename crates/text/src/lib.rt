@@ -47,7 +47,9 @@ fn lists(version: Version) -> (TermList, TermList)
     }
 }
 
-// A sheet, and its term in records: record n holds it. A clause sees the sheet's bytes, the records and n.
+// A sheet, and its term in records: record n holds it. A clause sees the sheet's bytes, the records and n. The struct is this crate's own:
+// of the others with a sheet and its term, those that list would take it apart at once for proof_term_lists, which knows no sheet, and
+// judgement writes into the records.
 #[derive(Drop)]
 struct SheetTerm<'a, 's> {
     sheet: &'a AdmittedSheet<'s>,
