@@ -155,7 +155,7 @@ impl<'a> Terms<'a> {
         }
     }
 
-    // Does the term of record m, a node of that number, check against the proposition at p?
+    // Does the term of record m, a node of that number, check against the proposition at p? It is as long as there are kinds.
     #[cycle(check_infer)]
     pub fn check(&self, state: &mut State, m: usize, node: usize, p: usize) -> usize
         requires { JudgeableTerm self.now state.old m node × Stood self.now.code.now p }
