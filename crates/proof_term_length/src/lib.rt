@@ -89,6 +89,8 @@ fn total<T: Copy + Drop, F: Fn(T) -> usize>(items: &[T], cap: usize, length_of: 
 }
 
 // The length of the text of the proposition at `at`, which is found out once, unless a label 4,096 bytes away takes turns with it.
+// Memory, vocabulary and ends come in loose, as in `prop_length::text_length`: by the bounds of what the slices hold, which are known of a
+// parameter, twice a length fits an entry.
 // An entry is twice a length, and one more for an offset in the upper half of the code. A struct of both takes eight bytes with its padding,
 // and the table of these, which the compiler lays down in the frame of `text::measure_term`, 32,768 bytes in the place of 16,384.
 fn known_length(
