@@ -256,19 +256,12 @@ fn judge_agrees(rest: &mut &[u8], s: &[u8]) -> bool {
 }
 
 // The nodes of a term, its names and its bytes of code; or how many numbers of records and bytes of names and of code are lent for it.
-#[derive(Debug, Clone, Copy, PartialEq, Eq)]
+#[derive(Debug, Clone, Copy, PartialEq, Eq, Default)]
 struct Size {
     records: usize,
     names: usize,
     code: usize,
 }
-
-// The size of no term.
-const NO_TERM: Size = Size {
-    records: 0,
-    names: 0,
-    code: 0,
-};
 
 fn term_answer(reading: Result<TermSize, Located>) -> Result<Size, Refused> {
     let term = reading?;
@@ -300,7 +293,7 @@ fn read_room(rest: &mut &[u8]) -> Size {
 fn term_agrees(rest: &mut &[u8], text: &[u8], datatypes: &[u8]) -> bool {
     let room = read_room(rest);
     let expected = read_term_answer(rest);
-    let held = expected.unwrap_or(NO_TERM);
+    let held = expected.unwrap_or_default();
     let numbers = read_numbers::<ROOM>(rest, RECORD_SIZE * held.records.min(ROOM));
     let pairs = read_memory(rest, PAIR_SIZE * held.names.min(ROOM));
     let labels = read_memory(rest, held.code);

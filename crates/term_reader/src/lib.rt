@@ -164,7 +164,8 @@ fn copy_out(records: &mut [u16], names: &mut [u8], work: &Work, table: &NameTabl
     names[..bytes].copy_from_slice(&table.pairs[..bytes]);
 }
 
-// Hands the term over that was measured, in rooms that hold it.
+// Hands the term over that was measured, in rooms that hold it. The three memories are lent by C one by one, and stand in no struct: where
+// one of several `&mut` ends, nothing ties the memories to what it held, as appended_parts says of two.
 fn hand_over(
     text: &[u8],
     types: &[u8],
