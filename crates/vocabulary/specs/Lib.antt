@@ -1,2 +1,3 @@
 -- What a vocabulary says of a memory.
 pub mod Vocabulary
+pub mod Memory

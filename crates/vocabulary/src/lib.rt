@@ -1,18 +1,15 @@
 // The names and the code of propositions in one memory: those of a sheet, or of a term that was read. A function that reads names or
-// propositions takes the memory and a vocabulary; one that compares two memories takes two of each.
+// propositions takes a `Memory`, bytes with their vocabulary; one that compares two memories takes two.
 #![tactic(auto)]
 
 ghost use Rattle.std.specs.Prelude.{◌≡◌, ◌+◌, ◌≤◌, length, take, drop};
 ghost use Rattle.definitions.specs.Name.{eq_name, compare_name};
+ghost use Rattle.vocabulary.specs.Memory.{pairs_of, text_of, code_of, name_of, LiesWithin, HasName, PropositionAt};
 ghost use Rattle.vocabulary.specs.Vocabulary.{pairs_in, text_in, code_in, name_in, Within, Names, SomeProposition, ShapeIn};
 
 use number::{Marked, PAIR_SIZE};
 use prefix_code::{Shape, shape_at};
 use std::cmp::Ordering;
-
-// A memory and its vocabulary stand loose here. The crates above hold them in structs of their own, each with what it reads beside them: the
-// slots in name_index's `Index`, the ends in prop's `Propositions`. A struct of the two would stand inside those, so that `m.bytes` would be
-// `m.memory.bytes`. That the parts lie within the memory is a field of `Names` and of `SomeProposition`, which those who read ask for.
 
 // A memory has at most so many names.
 pub const NAME_LIMIT: usize = 512;
@@ -26,6 +23,75 @@ pub struct Vocabulary {
     pub text_length: usize,
     pub code: usize,
     pub code_length: usize,
+}
+
+// Bytes, and where names and code lie in them. That these parts lie within the bytes is asked where one is read, and is no ghost field:
+// `declarations::put_declarations` of no declarations asks nothing of their memory, and a type would.
+#[derive(Clone, Copy)]
+pub struct Memory<'m> {
+    pub bytes: &'m [u8],
+    pub vocabulary: Vocabulary,
+}
+
+impl<'m> Memory<'m> {
+    // The names' pairs.
+    #[tactic(auto, unfolding(crate::specs::Vocabulary::pairs_in, definitions::specs::Sheet::pair_size))]
+    pub fn pairs(&self) -> &'m [u8]
+        requires { LiesWithin self.now }
+        ensures { result.now ≡ pairs_of self.now }
+    {
+        let v = self.vocabulary;
+        &self.bytes[v.pairs..v.pairs + PAIR_SIZE * v.name_count]
+    }
+
+    // Their text.
+    #[tactic(auto, unfolding(crate::specs::Vocabulary::text_in))]
+    pub fn text(&self) -> &'m [u8]
+        requires { LiesWithin self.now }
+        ensures { result.now ≡ text_of self.now }
+    {
+        let v = self.vocabulary;
+        &self.bytes[v.text..v.text + v.text_length]
+    }
+
+    // The code of the propositions.
+    #[tactic(auto, unfolding(crate::specs::Vocabulary::code_in))]
+    pub fn code(&self) -> &'m [u8]
+        requires { LiesWithin self.now }
+        ensures { result.now ≡ code_of self.now }
+    {
+        let v = self.vocabulary;
+        &self.bytes[v.code..v.code + v.code_length]
+    }
+
+    // The bytes of a name.
+    #[tactic(auto, unfolding(crate::specs::Vocabulary::name_in))]
+    pub fn name(&self, i: usize) -> &'m [u8]
+        requires { HasName self.now i }
+        ensures { result.now ≡ name_of self.now i }
+    {
+        let names = Marked {
+            pairs: self.pairs(),
+            bytes: self.text(),
+        };
+        names.piece(i)
+    }
+
+    // Whether a name of this memory and a name of another have the same bytes.
+    pub fn same_name(&self, i: usize, other: &Memory, j: usize) -> bool
+        requires { HasName self.now i × HasName other.now j }
+        ensures { result ≡ eq_name (name_of self.now i) (name_of other.now j) }
+    {
+        identifier::same_name(self.name(i), other.name(j))
+    }
+
+    // The shape of the proposition at an offset of the code.
+    pub fn shape(&self, at: usize) -> Shape
+        requires { PropositionAt self.now at }
+        ensures { ShapeIn self.now.bytes.now self.now.vocabulary at result }
+    {
+        shape_at(self.code(), at)
+    }
 }
 
 // The names' pairs.
