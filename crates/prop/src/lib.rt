@@ -8,14 +8,15 @@ ghost use Rattle.definitions.specs.Sheet.{pair_offset};
 ghost use Rattle.definitions.specs.Display;
 ghost use Rattle.prefix_code.specs.PropAt.{prop_at};
 ghost use Rattle.prefix_code.specs.Shape.{quantifier_meant};
+ghost use Rattle.vocabulary.specs.Memory.{name_of, HasName};
 ghost use Rattle.prop.specs.Ends.{Known, Fillable, Filled, AllFillable};
 ghost use Rattle.prop.specs.Printing.{quantifier_head, Legible};
-ghost use Rattle.prop.specs.Propositions.{names_of, prop_named, text_at, part_at, HasName, HasAtom, PutsAtom, HasProposition};
+ghost use Rattle.prop.specs.Propositions.{prop_named, text_at, part_at, HasAtom, PutsAtom, HasProposition};
 
 use number::{number_at, pair_offset};
 use output::Sink;
 use prefix_code::{Connective, Head, Quantifier, Shape, WEAKEST, head_end, parameter_end};
-use vocabulary::{Vocabulary, code_of, name, shape};
+use vocabulary::Memory;
 
 // Code, place, count of names and ends stand loose in the filling, as in prefix_code: the ends are what it writes.
 
@@ -72,26 +73,17 @@ pub fn precedence(code: &[u8], ends: &[u16], at: usize) -> usize
 // The propositions of a memory, with the table of their ends.
 #[derive(Clone, Copy)]
 pub struct Propositions<'a> {
-    pub bytes: &'a [u8],
-    pub v: Vocabulary,
+    pub memory: Memory<'a>,
     pub ends: &'a [u16],
 }
 
 impl Propositions<'_> {
-    // The bytes of a name.
-    fn name(&self, i: usize) -> &[u8]
-        requires { HasName self.now i }
-        ensures { result.now ≡ names_of self.now i }
-    {
-        name(self.bytes, self.v, i)
-    }
-
     // How strongly the proposition at `at` binds.
     fn strength(&self, at: usize) -> usize
         requires { HasProposition self.now at }
         ensures { result ≡ Display.precedence (prop_named self.now at) }
     {
-        precedence(code_of(self.bytes, self.v), self.ends, at)
+        precedence(self.memory.code(), self.ends, at)
     }
 }
 
@@ -103,13 +95,13 @@ fn put_quantifier<S: Sink<u8>>(
     object: usize,
     datatype: usize,
 )
-    requires { HasName propositions.now object × HasName propositions.now datatype }
-    ensures { S.puts sink.old (quantifier_head (names_of propositions.now) (quantifier_meant q) object datatype) sink.new }
+    requires { HasName propositions.now.memory object × HasName propositions.now.memory datatype }
+    ensures { S.puts sink.old (quantifier_head (name_of propositions.now.memory) (quantifier_meant q) object datatype) sink.new }
 {
     sink.put_all(q.sign());
-    sink.put_all(propositions.name(object));
+    sink.put_all(propositions.memory.name(object));
     sink.put(b':');
-    sink.put_all(propositions.name(datatype));
+    sink.put_all(propositions.memory.name(datatype));
     sink.put_all(b". ");
 }
 
@@ -125,16 +117,16 @@ fn put_atom<S: Sink<u8>>(
     requires { HasAtom propositions.now name count parameters }
     ensures { PutsAtom propositions.now name count parameters S.puts sink.old sink.new }
 {
-    sink.put_all(propositions.name(name));
+    sink.put_all(propositions.memory.name(name));
     if count == 0 {
         return;
     }
     sink.put(b'(');
-    let code = code_of(propositions.bytes, propositions.v);
+    let code = propositions.memory.code();
     let mut i = parameters;
     for left in (0..count).rev() {
-        sink.put_all(propositions.name(number_at(code, i + 1)));
-        i = parameter_end(code, i, propositions.v.name_count);
+        sink.put_all(propositions.memory.name(number_at(code, i + 1)));
+        i = parameter_end(code, i, propositions.memory.vocabulary.name_count);
         if 0 < left {
             sink.put_all(b", ");
         }
@@ -163,7 +155,7 @@ pub fn put_proposition<S: Sink<u8>>(sink: &mut S, propositions: &Propositions, a
     requires { HasProposition propositions.now at }
     ensures { S.puts sink.old (text_at propositions.now at) sink.new }
 {
-    match shape(propositions.bytes, propositions.v, at) {
+    match propositions.memory.shape(at) {
         Shape::True => sink.put_all(b"\xE2\x8A\xA4"), // ⊤
         Shape::False => sink.put_all(b"\xE2\x8A\xA5"), // ⊥
         Shape::Atom {

@@ -9,7 +9,8 @@ use Rattle.definitions.specs.Display.{wrap}
 use Rattle.definitions.specs.Prop.{rename_prop}
 use Rattle.prefix_code.proofs.Reading.{inside}
 use Rattle.vocabulary.specs.declared.Vocabulary.{Vocabulary}
-use Rattle.vocabulary.specs.Vocabulary.{code_in, name_in, prop_in}
+use Rattle.vocabulary.specs.Vocabulary.{prop_in}
+use Rattle.vocabulary.specs.Memory.{code_of, name_of}
 use Rattle.prop.specs.Printing.{KnownIn, Printable}
 use Rattle.prop.proofs.Shapes.{true_text, false_text, applied, Sides, sides, Scope, scope}
 use Rattle.prop.proofs.Shown.{below_as, quantified_text, negation_text, binary_text}
@@ -36,17 +37,17 @@ put_part-returns g t c =
 
 -- `put_proposition`: the shape that was read tells of the parts
 sides_here : (g : _) (t : ℕ) → (c : put_proposition-In-Binary g t) → let s = c.args in
-    Sides {names = s.propositions.now.v.name_count} {l = code_in s.propositions.now.bytes.now s.propositions.now.v} {ends = s.propositions.now.ends.now} {at = s.at} c.requires.known c.in-Binary.connective c.in-Binary.left
+    Sides {names = s.propositions.now.memory.vocabulary.name_count} {l = code_of s.propositions.now.memory} {ends = s.propositions.now.ends.now} {at = s.at} c.requires.known c.in-Binary.connective c.in-Binary.left
 sides_here g t c = sides c.requires.known c.in-Binary.ensures
 
 scope_here : (g : _) (t : ℕ) → (c : put_proposition-In-Quantified g t) → let s = c.args in
-    Scope {names = s.propositions.now.v.name_count} {l = code_in s.propositions.now.bytes.now s.propositions.now.v} {ends = s.propositions.now.ends.now} {at = s.at} c.requires.known
+    Scope {names = s.propositions.now.memory.vocabulary.name_count} {l = code_of s.propositions.now.memory} {ends = s.propositions.now.ends.now} {at = s.at} c.requires.known
     c.in-Quantified.quantifier c.in-Quantified.object c.in-Quantified.datatype c.in-Quantified.body
 scope_here g t c = scope c.requires.known c.in-Quantified.ensures
 
 -- the left side can be printed, and lies further on
 left_part : (g : _) (t : ℕ) → (c : put_proposition-In-Binary g t) → let s = c.args in
-    (2 * (length (code_in s.propositions.now.bytes.now s.propositions.now.v) - c.in-Binary.left) + 1 < t) × Printable s.propositions.now.bytes.now s.propositions.now.v s.propositions.now.ends.now c.in-Binary.left
+    (2 * (length (code_of s.propositions.now.memory) - c.in-Binary.left) + 1 < t) × Printable s.propositions.now.memory.bytes.now s.propositions.now.memory.vocabulary s.propositions.now.ends.now c.in-Binary.left
 left_part g t c =
     let b = sides_here g t c in
     (omega (arith, c.decreases, inside b.parts.left.present, b.left_is), part_of c.requires (rw b.left_is b.parts.left))
@@ -56,11 +57,11 @@ put_proposition-shape-requires g t c = record { within = c.requires.within; pres
 
 pub put_proposition-returns-in-True : goal.put_proposition-returns-in-True
 unfolding prop_in
-put_proposition-returns-in-True g t c = rw (← (true_text (name_in c.args.propositions.now.bytes.now c.args.propositions.now.v) c.in-True.ensures)) c.put_all.ensures
+put_proposition-returns-in-True g t c = rw (← (true_text (name_of c.args.propositions.now.memory) c.in-True.ensures)) c.put_all.ensures
 
 pub put_proposition-returns-in-False : goal.put_proposition-returns-in-False
 unfolding prop_in
-put_proposition-returns-in-False g t c = rw (← (false_text (name_in c.args.propositions.now.bytes.now c.args.propositions.now.v) c.in-False.ensures)) c.put_all-in-False.ensures
+put_proposition-returns-in-False g t c = rw (← (false_text (name_of c.args.propositions.now.memory) c.in-False.ensures)) c.put_all-in-False.ensures
 
 pub put_proposition-put_atom-requires : goal.put_proposition-put_atom-requires
 put_proposition-put_atom-requires g t c =

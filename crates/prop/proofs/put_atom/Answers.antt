@@ -9,9 +9,9 @@ use Rattle.prop.proofs.put_atom.Goals as goal
 use Rattle.prop.proofs.put_atom.Goals.{In-loop-left}
 
 -- a name stands at the parameter that is the next
-parameter : (g : _) (c : In-loop-left g) → NameAt c.args.propositions.now.v.name_count c.code_of-code.result.now c.loop-left.i 3
+parameter : (g : _) (c : In-loop-left g) → NameAt c.args.propositions.now.memory.vocabulary.name_count c.code-code.result.now c.loop-left.i 3
 parameter g c =
-    parameter_name_lem _ _ _ _ g.met.S.Sink.laws (c.loop-left.invariant c.requires.parameters c.requires.rest (rw c.code_of-code.ensures c.requires.stands))
+    parameter_name_lem _ _ _ _ g.met.S.Sink.laws (c.loop-left.invariant c.requires.parameters c.requires.rest (rw c.code-code.ensures c.requires.stands))
     c.loop-left-test.true
 
 pub name-requires : goal.name-requires
@@ -53,6 +53,6 @@ pub returns : goal.returns
 returns g c =
     let laws = g.met.S.Sink.laws in
     λ ps rest s.
-    let ended = listing_ends _ _ _ _ laws (c.loop-left.invariant ps rest (rw c.code_of-code.ensures s)) c.loop-left-test.false in
+    let ended = listing_ends _ _ _ _ laws (c.loop-left.invariant ps rest (rw c.code-code.ensures s)) c.loop-left-test.false in
     rw (← (full_atom (name_in _ _) _ _ ps _ _ rest s c.args.name c.if-count-eq0.false), ← c.name.ensures)
     (laws.then c.put_all.ensures (laws.then c.put.ensures (laws.then ended c.put-2.ensures)))
