@@ -2,7 +2,7 @@
 use Rattle.std.specs.Prelude.{ℕ, List}
 use Rattle.definitions.specs.Name.{Name}
 use Rattle.definitions.specs.Prop.{Prop}
-use Rattle.prop.specs.declared.Propositions.{Propositions}
+use Rattle.prop.specs.declared.propositions.Propositions.{Propositions}
 use Rattle.prop.specs.Printing.{named_prop, prop_text, part_text, AtomPrintable, AtomPut, Printable}
 
 module _ (m : Propositions) where

@@ -1,6 +1,8 @@
 // Propositions, after the Rust's prop.rs: where the code of each part ends, how strongly a proposition binds, and its text.
 #![tactic(auto)]
 
+mod propositions;
+
 ghost use Rattle.std.specs.Prelude.{◌≡◌, ℕ, ◌<◌};
 ghost use Rattle.definitions.specs.Name.{Name};
 ghost use Rattle.definitions.specs.Prop.{rename_prop};
@@ -16,7 +18,7 @@ ghost use Rattle.prop.specs.Propositions.{prop_named, text_at, part_at, HasAtom,
 use number::{number_at, pair_offset};
 use output::Sink;
 use prefix_code::{Connective, Head, Quantifier, Shape, WEAKEST, head_end, parameter_end};
-use vocabulary::Memory;
+pub use propositions::Propositions;
 
 // Code, place, count of names and ends stand loose in the filling, as in prefix_code: the ends are what it writes.
 
@@ -68,13 +70,6 @@ pub fn precedence(code: &[u8], ends: &[u16], at: usize) -> usize
         Head::Quantified(_) => WEAKEST,
         Head::True | Head::False | Head::Atom => ATOM_STRENGTH,
     }
-}
-
-// The propositions of a memory, with the table of their ends.
-#[derive(Clone, Copy)]
-pub struct Propositions<'a> {
-    pub memory: Memory<'a>,
-    pub ends: &'a [u16],
 }
 
 impl Propositions<'_> {

@@ -2,7 +2,7 @@
 use Rattle.std.specs.Prelude.{ℕ, List}
 use Rattle.definitions.specs.Name.{Name}
 use Rattle.definitions.specs.Prop.{Prop}
-use Rattle.vocabulary.specs.declared.Memory.{Memory}
+use Rattle.vocabulary.specs.declared.memory.Memory.{Memory}
 use Rattle.vocabulary.specs.Vocabulary.{pairs_in, text_in, code_in, name_in, prop_in, Within, Names, SomeProposition}
 
 module _ (m : Memory) where

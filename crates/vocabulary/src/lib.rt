@@ -2,11 +2,14 @@
 // propositions takes a `Memory`, bytes with their vocabulary; one that compares two memories takes two.
 #![tactic(auto)]
 
+mod memory;
+
 ghost use Rattle.std.specs.Prelude.{◌≡◌, ◌+◌, ◌≤◌, length, take, drop};
 ghost use Rattle.definitions.specs.Name.{eq_name, compare_name};
 ghost use Rattle.vocabulary.specs.Memory.{pairs_of, text_of, code_of, name_of, LiesWithin, HasName, PropositionAt};
 ghost use Rattle.vocabulary.specs.Vocabulary.{pairs_in, text_in, code_in, name_in, Within, Names, SomeProposition, ShapeIn};
 
+pub use memory::Memory;
 use number::{Marked, PAIR_SIZE};
 use prefix_code::{Shape, shape_at};
 use std::cmp::Ordering;
@@ -23,14 +26,6 @@ pub struct Vocabulary {
     pub text_length: usize,
     pub code: usize,
     pub code_length: usize,
-}
-
-// Bytes, and where names and code lie in them. That these parts lie within the bytes is asked where one is read, and is no ghost field:
-// `declarations::put_declarations` of no declarations asks nothing of their memory, and a type would.
-#[derive(Clone, Copy)]
-pub struct Memory<'m> {
-    pub bytes: &'m [u8],
-    pub vocabulary: Vocabulary,
 }
 
 impl<'m> Memory<'m> {
