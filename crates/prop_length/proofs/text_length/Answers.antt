@@ -5,5 +5,6 @@ use Rattle.prop_length.proofs.text_length.Goals as goal
 
 pub returns : goal.returns
 returns c =
-    let short = text_fits _ _ _ _ (λ k. omega (arith, c.type_inv.bytes k)) (omega (arith, c.type_inv.ends c.args.at)) c.requires.known in
+    let p = c.args.propositions.now in
+    let short = text_fits _ _ _ _ p.memory.fits (p.fits c.args.at) c.requires.known in
     record { is = omega (arith, c.put_proposition.ensures.counted, short); small = omega (arith, c.put_proposition.ensures.counted, short) }
