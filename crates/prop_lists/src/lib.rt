@@ -6,7 +6,7 @@ ghost use Rattle.std.specs.Prelude.{◌≡◌, ℕ, List, [], ◌∷◌, ◌<◌
 ghost use Rattle.definitions.specs.Prop.{AtomUse};
 ghost use Rattle.definitions.specs.Code.{parameter_limit};
 ghost use Rattle.prefix_code.specs.Shape.{head_byte};
-ghost use Rattle.vocabulary.specs.Vocabulary.{prop_in, SomeProposition};
+ghost use Rattle.vocabulary.specs.Memory.{prop_of, PropositionAt};
 ghost use Rattle.prop_lists.specs.Row.{Row};
 ghost use Rattle.prop_lists.specs.Entries.{use_of, entries, has_entry, NextHead, GivesEntry};
 ghost use Rattle.prop_lists.specs.UseSinkLaws.{UseSinkLaws};
@@ -15,10 +15,10 @@ use definitions::TermList;
 use number::number_at;
 use output::Sink;
 use prefix_code::{Head, head_end, scan};
-use vocabulary::{Vocabulary, code_of};
+use vocabulary::Memory;
 
 // Code, the end of a row, the count of names and the list stand loose: a struct of the four, with a relation of its own over it, would
-// serve the two private steps of one walk. A memory and its vocabulary stand loose for the reason that vocabulary gives.
+// serve the two private steps of one walk.
 
 // An entry of a list: the number of a name, an atom's parameter count or 0 for a datatype, and the position after its head. The count is
 // no Option: a datatype is declared as the use of a name with the count 0, so the 0 is what a None would be turned into at once.
@@ -132,13 +132,13 @@ impl<'a, S: Sink<u16>> UseSink for Numbers<'a, S> {
 }
 
 // The entries of the proposition at an offset of the code.
-pub fn put_entries<S: UseSink>(sink: &mut S, list: TermList, bytes: &[u8], v: Vocabulary, at: usize)
-    requires some_proposition { SomeProposition bytes.now v at }
-    requires known { (name : ℕ) → name < v.name_count → S.knows sink.old name }
-    ensures { S.puts sink.old (entries list (prop_in bytes.now v at)) sink.new }
+pub fn put_entries<S: UseSink>(sink: &mut S, list: TermList, memory: &Memory, at: usize)
+    requires some_proposition { PropositionAt memory.now at }
+    requires known { (name : ℕ) → name < memory.now.vocabulary.name_count → S.knows sink.old name }
+    ensures { S.puts sink.old (entries list (prop_of memory.now at)) sink.new }
 {
-    let code = code_of(bytes, v);
-    let names = v.name_count;
+    let code = memory.code();
+    let names = memory.vocabulary.name_count;
     let end = scan(code, at, names);
     let mut i = at;
     while let Some(entry) = next_entry(code, i, end, names, list) {

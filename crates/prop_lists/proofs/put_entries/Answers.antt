@@ -9,13 +9,13 @@ use Rattle.prop_lists.proofs.put_entries.Goals.{In-Some}
 -- the entry is the first from `i` on
 found : (g : _) (c : In-Some g) →
     let s = c.args in
-    FirstEntry s.v.name_count s.list c.code_of-code.result.now c.loop-entry.i c.scan-end.result (use_of c.in-Some.entry.name c.in-Some.entry.count) c.in-Some.entry.next
+    FirstEntry s.memory.now.vocabulary.name_count s.list c.code-code.result.now c.loop-entry.i c.scan-end.result (use_of c.in-Some.entry.name c.in-Some.entry.count) c.in-Some.entry.next
 found g c = rw c.in-Some.is at c.next_entry.ensures
 
 pub returns : goal.returns
 returns g c =
     let none = rw c.in_default.is at c.next_entry.ensures in
-    let all = entries_there c.requires.some_proposition c.code_of-code.ensures c.scan-end.ensures c.args.list in
+    let all = entries_there c.requires.some_proposition c.code-code.ensures c.scan-end.ensures c.args.list in
     rw all at (none_left g.met.S.UseSink.laws (rw none at c.loop-entry.invariant.1))
 
 pub put_use-requires : goal.put_use-requires
@@ -35,15 +35,15 @@ loop-entry-preserved g c =
       λ name below. laws.stays c.put_use.ensures name (c.loop-entry.invariant.2 name below),
     )
 
-pub code_of-code-requires : goal.code_of-code-requires
-code_of-code-requires g c = c.requires.some_proposition.within
+pub code-code-requires : goal.code-code-requires
+code-code-requires g c = c.requires.some_proposition.within
 
 pub scan-end-requires : goal.scan-end-requires
-scan-end-requires g c = begins c.requires.some_proposition c.code_of-code.ensures
+scan-end-requires g c = begins c.requires.some_proposition c.code-code.ensures
 
 pub loop-entry-init : goal.loop-entry-init
 loop-entry-init g c =
-    (row_there c.requires.some_proposition c.code_of-code.ensures c.scan-end.ensures, all_left g.met.S.UseSink.laws, c.requires.known)
+    (row_there c.requires.some_proposition c.code-code.ensures c.scan-end.ensures, all_left g.met.S.UseSink.laws, c.requires.known)
 
 pub next_entry-requires : goal.next_entry-requires
 next_entry-requires g c = c.loop-entry.invariant.0
