@@ -12,14 +12,12 @@ ghost use Rattle.proof_term.specs.Views.{kind_number};
 ghost use Rattle.proof_term_display.specs.Ascriptions.{bracket, AscribedBody, body_bracketed};
 ghost use Rattle.proof_term_display.specs.Brackets.{position_of, is_bracketed, bracket_row, form_at};
 ghost use Rattle.proof_term_display.specs.Format.{part_field, part_number, part_position, item_of, part, items, formats};
-ghost use Rattle.proof_term_display.specs.Printable.{PrintableTerm, term_text};
-ghost use Rattle.proof_term_display.specs.Printer.{HasLabel, shown_in, shown_of_parameter, HasTerm, HasItem, HasLabelOf, text_of, text_of_item, text_after};
+ghost use Rattle.proof_term_display.specs.Printer.{HasLabel, shown_in, shown_of_parameter, CanShowTerm, shown_term, HasTerm, HasItem, HasLabelOf, text_of, text_of_item, text_after};
 
 use definitions::Style;
 use output::Sink;
 use proof_term::{Form, Kind, Label, field, kind_at, label_at, parameter_at};
 use prop::{Propositions, put_proposition};
-use vocabulary::{Vocabulary, name};
 
 // The positions of parts.
 #[derive(Clone, Copy, PartialEq, Eq)]
@@ -177,7 +175,7 @@ fn put_label<S: Sink<u8>>(sink: &mut S, label: Label, propositions: &Proposition
 {
     match label {
         Label::Datatype(datatype) => {
-            sink.put_all(name(propositions.bytes, propositions.v, usize::from(datatype)));
+            sink.put_all(propositions.memory.name(usize::from(datatype)));
         }
         Label::Proposition(at) => put_proposition(sink, propositions, usize::from(at)),
     }
@@ -287,7 +285,7 @@ fn put_item<S: Sink<u8>>(sink: &mut S, p: &Printer, n: usize, b: u8)
     }
     if is_between(b, b'1', b'5') {
         let number = field(p.records, n, (b - b'0') as usize);
-        sink.put_all(name(p.propositions.bytes, p.propositions.v, number));
+        sink.put_all(p.propositions.memory.name(number));
         return;
     }
     if let Some(which) = TermPart::of_letter(b) {
@@ -321,17 +319,15 @@ pub fn put_term<S: Sink<u8>>(
     sink: &mut S,
     records: &[u16],
     n: usize,
-    bytes: &[u8],
-    v: Vocabulary,
-    ends: &[u16],
+    propositions: Propositions,
     style: Style,
 )
-    requires { PrintableTerm records.now n bytes.now v ends.now }
-    ensures { S.puts sink.old (term_text style bytes.now v records.now n) sink.new }
+    requires { CanShowTerm propositions records.now n }
+    ensures { S.puts sink.old (shown_term propositions.entry style records.now n) sink.new }
 {
     let p = Printer {
         records,
-        propositions: Propositions { bytes, v, ends },
+        propositions,
         style,
     };
     put_node(sink, &p, n);

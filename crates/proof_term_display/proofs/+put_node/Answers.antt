@@ -129,7 +129,7 @@ put_item-put_parameter_label-requires g t c =
 pub put_item-returns-then-b-eq76 : goal.put_item-returns-then-b-eq76
 unfolding item_text
 put_item-returns-then-b-eq76 g t c =
-    rw (item_of_parameter _ c.if-b-eq76.true, ← (parameter_label_shown c.args.p.now.propositions.bytes.now c.args.p.now.propositions.v c.args.p.now.records.now c.args.n c.parameter_at.ensures))
+    rw (item_of_parameter _ c.if-b-eq76.true, ← (parameter_label_shown c.args.p.now.propositions.memory.bytes.now c.args.p.now.propositions.memory.vocabulary c.args.p.now.records.now c.args.n c.parameter_at.ensures))
     c.put_parameter_label.ensures
 
 pub put_item-put_label-requires : goal.put_item-put_label-requires
@@ -140,7 +140,7 @@ put_item-put_label-requires g t c =
 pub put_item-returns-then-b-eq77 : goal.put_item-returns-then-b-eq77
 unfolding item_text
 put_item-returns-then-b-eq77 g t c =
-    rw (item_of_ascription _ c.if-b-eq77.true, ← (label_shown c.args.p.now.propositions.bytes.now c.args.p.now.propositions.v c.args.p.now.records.now c.args.n c.label_at.ensures))
+    rw (item_of_ascription _ c.if-b-eq77.true, ← (label_shown c.args.p.now.propositions.memory.bytes.now c.args.p.now.propositions.memory.vocabulary c.args.p.now.records.now c.args.n c.label_at.ensures))
     c.put_label.ensures
 
 pub put_item-returns : goal.put_item-returns

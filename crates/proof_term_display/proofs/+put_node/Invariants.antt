@@ -16,4 +16,4 @@ decreases-put_item g l = 3 * l.n + 1
 abbrev pub invariant-put_node-loop-b : goal.invariant-put_node-loop-b
 invariant-put_node-loop-b g l =
     let p = l.p in
-    Underway p.style p.propositions.bytes.now p.propositions.v p.propositions.ends.now p.records.now l.n g.S.Sink.puts l.initial.sink l.b-items l.sink l.b-index
+    Underway p.style p.propositions.memory.bytes.now p.propositions.memory.vocabulary p.propositions.ends.now p.records.now l.n g.S.Sink.puts l.initial.sink l.b-items l.sink l.b-index

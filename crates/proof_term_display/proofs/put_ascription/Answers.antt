@@ -11,7 +11,7 @@ returns-in_default g c = rw c.in_default.is (g.met.S.Sink.laws.none _)
 pub returns : goal.returns
 unfolding after_body
 returns g c =
-    rw (c.in-Some.is, ← (label_shown c.args.p.now.propositions.bytes.now c.args.p.now.propositions.v c.args.p.now.records.now c.args.n c.label_at.ensures))
+    rw (c.in-Some.is, ← (label_shown c.args.p.now.propositions.memory.bytes.now c.args.p.now.propositions.memory.vocabulary c.args.p.now.records.now c.args.n c.label_at.ensures))
     (g.met.S.Sink.laws.then c.put_all.ensures c.put_label.ensures)
 
 pub label_at-requires : goal.label_at-requires

@@ -2,7 +2,7 @@
 use mathlib.Core.Path.{ap, ◌∙◌}
 use Rattle.definitions.specs.Term.{rename_label}
 use Rattle.definitions.specs.Display.{display_label}
-use Rattle.vocabulary.specs.Vocabulary.{name_in}
+use Rattle.vocabulary.specs.Memory.{name_of}
 use Rattle.prop.proofs.Shown.{below_as, put_as}
 use Rattle.proof_term_display.proofs.put_label.Goals as goal
 
@@ -12,7 +12,7 @@ name-requires g c = c.requires.named _ (below_as c.from.ensures (c.requires.data
 pub returns-in-Datatype : goal.returns-in-Datatype
 unfolding rename_label display_label
 returns-in-Datatype g c =
-    rw c.in-Datatype.is (put_as g.S.Sink.puts (c.name.ensures ∙ ap (name_in c.args.propositions.now.bytes.now c.args.propositions.now.v) c.from.ensures) c.put_all.ensures)
+    rw c.in-Datatype.is (put_as g.S.Sink.puts (c.name.ensures ∙ ap (name_of c.args.propositions.now.memory) c.from.ensures) c.put_all.ensures)
 
 pub put_proposition-requires : goal.put_proposition-requires
 put_proposition-requires g c =
