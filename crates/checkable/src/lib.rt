@@ -55,7 +55,7 @@ pub fn is_quantifier_free(code: &[u8], names: usize) -> bool
 {
     let mut i = 0;
     // A head's own bytes say where it ends, so the place moves by no fixed step. An iterator over heads would have to keep the row of
-    // propositions that is left in a ghost field, as prop_lists::next_entry tells.
+    // propositions that is left in a ghost field, as prop_lists::put_entries tells.
     while i < code.len() {
         if !is_plain_head(code, i) {
             return false;

@@ -1,5 +1,4 @@
 -- The laws of rows of propositions and of the entries in them.
 pub mod Rows
-pub mod Fronts
-pub mod Walks
+pub mod Shapes
 pub mod Writes

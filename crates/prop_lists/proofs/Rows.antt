@@ -3,7 +3,7 @@ use Prim.Native.Nat.{ℕ, zero, suc, ◌+◌, ◌-◌, ◌≤◌, ◌<◌}
 use mathlib.Core.Path.{◌≡◌, refl, ap, ◌∙◌}
 use mathlib.Core.List.{List, [], ◌∷◌, ◌++◌, append_assoc, append-nil, map-append, flat_map}
 use native.Mathlib.Omega.{arith}
-use lib.ListN.{length, drop, get_or, length-append, length-drop}
+use lib.ListN.{length, drop, length-append, length-drop}
 use lib.Seq.{take_at}
 use Rattle.definitions.specs.declared.TermList.{TermList}
 use Rattle.definitions.specs.declared.TermList.TheVariants.{Atoms, Datatypes}
@@ -11,19 +11,19 @@ use Rattle.definitions.specs.Prop.{Prop, AtomUse, True, False, Binary, Atom, Qua
 use Rattle.definitions.specs.Code.{followed_by, ◌>>=◌, byte, proposition, u16, encode, Codable}
 use Rattle.definitions.proofs.PrefixCode.{code_nonempty, read_encode}
 use Rattle.prefix_code.specs.Scan.{Stands, At, Scanned}
-use Rattle.prefix_code.specs.PropAt.{prop_at}
+use Rattle.prefix_code.specs.PropAt.{prop_at, Present}
 use Rattle.prefix_code.specs.Head.{Head, TrueHead, FalseHead, BinaryHead, AtomHead, QuantifiedHead, encode_head, CodableHead}
 use Rattle.prefix_code.proofs.Positions.{after, extent}
-use Rattle.prefix_code.proofs.Heads.{HeadAt, head_bytes}
+use Rattle.prefix_code.proofs.Heads.{HeadAt}
 use Rattle.prefix_code.proofs.Forms.{inside_at}
-use Rattle.prefix_code.proofs.Reading.{inside}
+use Rattle.prefix_code.proofs.Reading.{inside, prop_at_lem, present}
 use Rattle.vocabulary.specs.declared.Vocabulary.{Vocabulary}
 use Rattle.vocabulary.specs.Vocabulary.{code_in, prop_in, SomeProposition}
 use Rattle.prop_lists.specs.Row.{encode_row, CodableRow, row_coding, Row, and_after, read_row, propositions_from}
 use Rattle.prop_lists.specs.Entries.{use_of, entries, entries_from}
 
 -- A proposition is a head and its parts.
-abbrev head_of : Prop ℕ → Head
+abbrev pub head_of : Prop ℕ → Head
 head_of True = TrueHead
 head_of False = FalseHead
 head_of (Binary c p q) = BinaryHead c
@@ -76,6 +76,13 @@ module _ (names : ℕ) where
   head_codable (Binary c p q) g = (tt, (g.0, (g.1, tt)))
   head_codable (Atom a ps) g = (g, tt)
   head_codable (Quantified q x t p) g = ((g.0, g.1), (g.2, tt))
+
+  -- where a proposition stands its head does
+  pub head_there : (code : List ℕ) (at : ℕ) (p : Prop ℕ) (rest : List ℕ) → At names code at p rest
+      → HeadAt names code at (head_of p) (encode_row (parts p) ++ rest)
+  unfolding Stands
+  head_there code at p rest (g, e) =
+      ((head_codable p g).0, cc (e, head_code p, append_assoc (encode_head (head_of p)) (encode_row (parts p)) rest))
 
   codable_append : (ps qs : List (Prop ℕ)) → CodableRow names ps → CodableRow names qs → CodableRow names (ps ++ qs)
   unfolding CodableRow
@@ -146,6 +153,11 @@ module _ {bytes : List ℕ} {v : Vocabulary} {at : ℕ} (there : SomeProposition
     unfolding prop_in
     entries_there list = rw (← cut) (entries_of _ code at end _ _ stands_there (scanned.found _ _ stands_there) list)
 
+-- at the end of a row no entry is left
+pub nothing_left : (names : ℕ) (code : List ℕ) (at end : ℕ) (list : TermList) → end ≤ at → entries_from names list code at end ≡ []
+unfolding entries_from propositions_from read_row flat_map
+nothing_left names code at end list h = let none : end - at ≡ 0 = omega arith in rw none refl
+
 -- `next` is where the head ends that stands at `at`, whichever that is
 abbrev pub HeadEnds : ℕ → List ℕ → ℕ → ℕ → Type 0
 HeadEnds names code at next = (h : Head) (rest : List ℕ) → HeadAt names code at h rest → next ≡ at + length (encode_head h)
@@ -159,13 +171,12 @@ head_nonempty (BinaryHead c) = omega arith
 head_nonempty (AtomHead a ps) = omega arith
 head_nonempty (QuantifiedHead q x t) = omega arith
 
--- The first head of a row, what it adds to a list, and the row behind it.
+-- Behind the first head of a row, which ends at `next`, a row stands again; what that head adds to a list.
 pub record First (names : ℕ) (code : List ℕ) (at end next : ℕ) : Type 0 where
-  pub head : Head
-  pub stands : HeadAt names code at head (drop next code)
   pub further : at < next
   pub row : Row names code next end
-  pub adds : (list : TermList) → entries_from names list code at end ≡ head_entries head list ++ entries_from names list code next end
+  pub adds : (list : TermList)
+      → entries_from names list code at end ≡ head_entries (head_of (prop_at names code at)) list ++ entries_from names list code next end
 
 module _ (p : Prop ℕ) (ps : List (Prop ℕ)) where
   -- the code of a row, and its entries: first those of the head, and then those of what stands behind it
@@ -191,17 +202,21 @@ module _ (p : Prop ℕ) (ps : List (Prop ℕ)) where
   head_stands names code at rest (g, e) =
       ((head_codable names p g.0).0, cc (row_code, append_assoc (encode_head (head_of p)) (encode_row (parts p ++ ps)) rest))
 
-module _ (names : ℕ) (code : List ℕ) (at end : ℕ) (row : Row names code at end) (before : at < end) where
-  -- a head stands in front, and its byte says which
-  pub known : get_or code at 0 < 8
+  -- the first proposition of a row stands in front of the others
+  first_stands : (names : ℕ) (code : List ℕ) (at : ℕ) (rest : List ℕ) → Stands (row_coding names) code at (p ∷ ps) rest
+      → At names code at p (encode_row ps ++ rest)
   unfolding Stands CodableRow flat_map
-  known = go row.propositions refl
+  first_stands names code at rest (g, e) = (g.0, cc (e, append_assoc (encode p) (encode_row ps) rest))
+
+module _ (names : ℕ) (code : List ℕ) (at end : ℕ) (row : Row names code at end) (before : at < end) where
+  -- a proposition stands in front
+  pub front : Present names code at
+  unfolding Stands CodableRow flat_map
+  front = go row.propositions refl
     where
-      go : (ps : List (Prop ℕ)) → row.propositions ≡ ps → get_or code at 0 < 8
+      go : (ps : List (Prop ℕ)) → row.propositions ≡ ps → Present names code at
       go [] e = absurd (omega (arith, row_length names code at end row, ap (λ qs. length (encode_row qs)) e))
-      go (p ∷ ps) e =
-          let whole : Stands (row_coding names) code at (p ∷ ps) (drop end code) = rw e at row.stands in
-          (head_bytes names code at (head_of p) _ (head_stands p ps names code at (drop end code) whole)).known
+      go (p ∷ ps) e = present names code at p (encode_row ps ++ drop end code) (first_stands p ps names code at (drop end code) (rw e at row.stands))
 
   pub first : (next : ℕ) → HeadEnds names code at next → First names code at end next
   unfolding Stands CodableRow flat_map
@@ -213,6 +228,7 @@ module _ (names : ℕ) (code : List ℕ) (at end : ℕ) (row : Row names code at
           let whole : Stands (row_coding names) code at (p ∷ ps) (drop end code) = rw e at row.stands in
           let rest : List ℕ = encode_row (parts p ++ ps) ++ drop end code in
           let here = head_stands p ps names code at (drop end code) whole in
+          let is : prop_at names code at ≡ p = prop_at_lem names code at p (encode_row ps ++ drop end code) (first_stands p ps names code at (drop end code) whole) in
           let size = extent code at (encode_head (head_of p)) rest (omega arith) here.1 in
           let ended : next ≡ at + length (encode_head (head_of p)) = ends (head_of p) rest here in
           let there : drop next code ≡ rest = rw ended (after code at (encode_head (head_of p)) rest here.1) in
@@ -223,10 +239,8 @@ module _ (names : ℕ) (code : List ℕ) (at end : ℕ) (row : Row names code at
             inside = row.inside;
           } in
           record {
-            head = head_of p;
-            stands = rw there here;
             further = omega (arith, head_nonempty (head_of p));
             row = behind;
             adds = λ list.
-                cc (entries_row names code at end row list, e, row_list p ps list, entries_row names code next end behind list);
+                rw is (cc (entries_row names code at end row list, e, row_list p ps list, entries_row names code next end behind list));
           }

@@ -5,84 +5,39 @@
 ghost use Rattle.std.specs.Prelude.{◌≡◌, ℕ, List, [], ◌∷◌, ◌<◌, ◌≤◌, ⊤};
 ghost use Rattle.definitions.specs.Prop.{AtomUse};
 ghost use Rattle.definitions.specs.Code.{parameter_limit};
-ghost use Rattle.prefix_code.specs.Shape.{head_byte};
 ghost use Rattle.vocabulary.specs.Memory.{prop_of, PropositionAt};
-ghost use Rattle.prop_lists.specs.Row.{Row};
-ghost use Rattle.prop_lists.specs.Entries.{use_of, entries, has_entry, NextHead, GivesEntry};
+ghost use Rattle.prop_lists.specs.Entries.{use_of, entries, own_entry};
 ghost use Rattle.prop_lists.specs.UseSinkLaws.{UseSinkLaws};
 
 use definitions::TermList;
-use number::number_at;
 use output::Sink;
-use prefix_code::{Head, head_end, scan};
+use prefix_code::{Shape, head_end, scan, shape_at};
 use vocabulary::Memory;
 
-// Code, the end of a row, the count of names and the list stand loose: a struct of the four, with a relation of its own over it, would
-// serve the two private steps of one walk.
-
-// An entry of a list: the number of a name, an atom's parameter count or 0 for a datatype, and the position after its head. The count is
-// no Option: a datatype is declared as the use of a name with the count 0, so the 0 is what a None would be turned into at once.
+// An entry of a list: the number of a name, and an atom's parameter count or 0 for a datatype. The count is no Option: a datatype is declared
+// as the use of a name with the count 0, so the 0 is what a None would be turned into at once.
 #[derive(Clone, Copy)]
 struct Entry {
     name: usize,
     count: usize,
-    next: usize,
 }
 
-// Has this head an entry in the list? The head is all that the walk asks for at most places; a Shape would also read the numbers
-// behind it. Which list is asked for is the caller's value, so the lists differ here, in an entry and in its numbers.
-fn has_entry(list: TermList, head: Head) -> bool
-    ensures { result ≡ has_entry list (head_byte head) }
+// What the shape of a proposition adds to a list, its parts aside: an atom its name and its count, a quantifier its datatype. Which list is
+// asked for is the caller's value, so the lists differ here and in an entry's numbers.
+#[tactic(auto, unfolding(crate::specs::Entries::own_entry))]
+fn own_entry(list: TermList, shape: Shape) -> Option<Entry>
+    ensures { result ≡ own_entry list shape }
 {
-    match list {
-        TermList::Atoms => matches!(head, Head::Atom),
-        TermList::Datatypes(_) => matches!(head, Head::Quantified(_)),
-    }
-}
-
-// The position of the next head with an entry, at or after `at`, and `end` if there is none before it. A head's bytes say how far the
-// next one is, so no range counts the turns.
-fn next_head(code: &[u8], at: usize, end: usize, names: usize, list: TermList) -> usize
-    requires { Row names code.now at end }
-    ensures { NextHead names list code.now at end result }
-{
-    let mut i = at;
-    while i < end {
-        if has_entry(list, Head::of_known(code[i])) {
-            return i;
-        }
-        i = head_end(code, i, names);
-    }
-    i
-}
-
-// The next entry at or after `at`, before `end`, if there is one: an atom's name and count stand behind its byte, a datatype's name behind
-// the object's. The walk keeps its position itself. As an iterator over `entries_from` all of its `next` is proved but what this function
-// requires: a ghost field keeps a fact that has one proof, and `Row` holds propositions. It would take laws that `Codable` has one proof,
-// and, for the loop, that each entry of a row is in bounds, which `GivesEntry` says of the one at hand.
-fn next_entry(code: &[u8], at: usize, end: usize, names: usize, list: TermList) -> Option<Entry>
-    requires { Row names code.now at end }
-    ensures { GivesEntry names list code.now at end result }
-{
-    let i = next_head(code, at, end, names, list);
-    if end <= i {
-        return None;
-    }
-    match list {
-        TermList::Atoms => {
-            let next = head_end(code, i, names);
-            let name = number_at(code, i + 1);
-            let count = code[i + 3] as usize;
-            Some(Entry { name, count, next })
-        }
-        TermList::Datatypes(_) => {
-            let name = number_at(code, i + 3);
-            Some(Entry {
-                name,
-                count: 0,
-                next: i + 5,
-            })
-        }
+    match (list, shape) {
+        (TermList::Atoms, Shape::Atom { name, count, .. }) => Some(Entry {
+            name,
+            count: usize::from(count),
+        }),
+        (TermList::Datatypes(_), Shape::Quantified { datatype, .. }) => Some(Entry {
+            name: datatype,
+            count: 0,
+        }),
+        _ => None,
     }
 }
 
@@ -131,7 +86,9 @@ impl<'a, S: Sink<u16>> UseSink for Numbers<'a, S> {
     }
 }
 
-// The entries of the proposition at an offset of the code.
+// The entries of the proposition at an offset of the code, head by head: a head's bytes say how far the next one is, so no range counts the
+// turns. As an iterator over `entries_from` all of its `next` is proved but that what is left is a row: a ghost field keeps a fact that has
+// one proof, and `Row` holds propositions. It would take laws that `Codable` has one proof, and that each entry of a row is in bounds.
 pub fn put_entries<S: UseSink>(sink: &mut S, list: TermList, memory: &Memory, at: usize)
     requires some_proposition { PropositionAt memory.now at }
     requires known { (name : ℕ) → name < memory.now.vocabulary.name_count → S.knows sink.old name }
@@ -141,8 +98,10 @@ pub fn put_entries<S: UseSink>(sink: &mut S, list: TermList, memory: &Memory, at
     let names = memory.vocabulary.name_count;
     let end = scan(code, at, names);
     let mut i = at;
-    while let Some(entry) = next_entry(code, i, end, names, list) {
-        sink.put_use(entry.name, entry.count);
-        i = entry.next;
+    while i < end {
+        if let Some(entry) = own_entry(list, shape_at(code, i)) {
+            sink.put_use(entry.name, entry.count);
+        }
+        i = head_end(code, i, names);
     }
 }

@@ -103,7 +103,7 @@ pub fn put_proposition<S: Sink<u8>>(code: &[u8], names: usize, numbers: &[u16], 
     };
     let mut i = 0;
     // A head's own bytes say where it ends, so the place moves by no fixed step. An iterator over heads would have to keep the row of
-    // propositions that is left in a ghost field, as prop_lists::next_entry tells.
+    // propositions that is left in a ghost field, as prop_lists::put_entries tells.
     while i < code.len() {
         mapped.put_head(i, sink);
         i = head_end(code, i, names);

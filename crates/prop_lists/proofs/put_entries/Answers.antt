@@ -1,39 +1,11 @@
 -- The loop's invariant: what is left to put are the entries from `i` on.
+use mathlib.Core.Path.{sym, ◌∙◌}
 use native.Mathlib.Omega.{arith}
-use Rattle.prop_lists.specs.Entries.{use_of, FirstEntry}
-use Rattle.prop_lists.proofs.Rows.{begins, row_there, entries_there}
+use Rattle.prop_lists.proofs.Rows.{begins, row_there, entries_there, nothing_left, front, first}
+use Rattle.prop_lists.proofs.Shapes.{Bounds, own_uses, own_bounds}
 use Rattle.prop_lists.proofs.Writes.{all_left, one_less, none_left}
 use Rattle.prop_lists.proofs.put_entries.Goals as goal
-use Rattle.prop_lists.proofs.put_entries.Goals.{In-Some}
-
--- the entry is the first from `i` on
-found : (g : _) (c : In-Some g) →
-    let s = c.args in
-    FirstEntry s.memory.now.vocabulary.name_count s.list c.code-code.result.now c.loop-entry.i c.scan-end.result (use_of c.in-Some.entry.name c.in-Some.entry.count) c.in-Some.entry.next
-found g c = rw c.in-Some.is at c.next_entry.ensures
-
-pub returns : goal.returns
-returns g c =
-    let none = rw c.in_default.is at c.next_entry.ensures in
-    let all = entries_there c.requires.some_proposition c.code-code.ensures c.scan-end.ensures c.args.list in
-    rw all at (none_left g.met.S.UseSink.laws (rw none at c.loop-entry.invariant.1))
-
-pub put_use-requires : goal.put_use-requires
-put_use-requires g c =
-    let bounds = (found g (goal.at.put_use-requires g c).In-Some).bounds in
-    record { known = c.loop-entry.invariant.2 _ bounds.below; bounds = (bounds.small, bounds.few) }
-
-pub loop-entry-smaller : goal.loop-entry-smaller
-loop-entry-smaller g c = let entry = found g (goal.at.loop-entry-smaller g c).In-Some in omega (arith, entry.forward, entry.row)
-
-pub loop-entry-preserved : goal.loop-entry-preserved
-loop-entry-preserved g c =
-    let laws = g.met.S.UseSink.laws in
-    let entry = found g (goal.at.loop-entry-preserved g c).In-Some in (
-      entry.row,
-      one_less laws (rw entry.adds at c.loop-entry.invariant.1) c.put_use.ensures,
-      λ name below. laws.stays c.put_use.ensures name (c.loop-entry.invariant.2 name below),
-    )
+use Rattle.prop_lists.proofs.put_entries.Goals.{In-Some, in-Some, in_default}
 
 pub code-code-requires : goal.code-code-requires
 code-code-requires g c = c.requires.some_proposition.within
@@ -41,9 +13,49 @@ code-code-requires g c = c.requires.some_proposition.within
 pub scan-end-requires : goal.scan-end-requires
 scan-end-requires g c = begins c.requires.some_proposition c.code-code.ensures
 
-pub loop-entry-init : goal.loop-entry-init
-loop-entry-init g c =
+pub loop-i-init : goal.loop-i-init
+loop-i-init g c =
     (row_there c.requires.some_proposition c.code-code.ensures c.scan-end.ensures, all_left g.met.S.UseSink.laws, c.requires.known)
 
-pub next_entry-requires : goal.next_entry-requires
-next_entry-requires g c = c.loop-entry.invariant.0
+pub shape_at-requires : goal.shape_at-requires
+shape_at-requires g c = record { names = _; present = front _ _ _ _ c.loop-i.invariant.0 c.loop-i-test.true }
+
+-- an entry's numbers are in bounds
+bounds : (g : _) (c : In-Some g) → Bounds c.args.memory.now.vocabulary.name_count c.in-Some.entry
+bounds g c =
+    let there = front _ _ _ _ c.loop-i.invariant.0 c.loop-i-test.true in
+    let is = sym c.own_entry.ensures ∙ c.in-Some.is in
+    rw is at (own_bounds c.args.list (λ k. omega (arith, c.type_inv.code k)) there (c.shape_at.ensures _ there))
+
+pub put_use-requires : goal.put_use-requires
+put_use-requires g c =
+    let b = bounds g (goal.at.put_use-requires g c).In-Some in
+    record { known = c.loop-i.invariant.2 _ b.below; bounds = (b.small, b.few) }
+
+pub loop-i-smaller : goal.loop-i-smaller
+loop-i-smaller g c =
+    let f = first _ _ _ _ c.loop-i.invariant.0 c.loop-i-test.true _ c.head_end-i.ensures.found in
+    omega (arith, f.further, f.row.forward)
+
+pub loop-i-preserved : goal.loop-i-preserved
+loop-i-preserved g c =
+    let laws = g.met.S.UseSink.laws in
+    let (row, left, known) = c.loop-i.invariant in
+    let there = front _ _ _ _ row c.loop-i-test.true in
+    let f = first _ _ _ _ row c.loop-i-test.true _ c.head_end-i.ensures.found in
+    let adds = rw (own_uses c.args.list (c.shape_at.ensures _ there), ← c.own_entry.ensures) at (f.adds c.args.list) in
+    elim c.match-own_entry.branch [
+      | in-Some w ↦ rw w.sink-is (
+        f.row,
+        one_less laws (rw (rw w.in-Some.is at adds) at left) w.put_use.ensures,
+        λ name below. laws.stays w.put_use.ensures name (known name below),
+      )
+      | in_default w ↦ rw w.sink-is (f.row, rw (rw w.in_default.is at adds) at left, known)
+    ]
+
+pub returns : goal.returns
+returns g c =
+    let s = c.args in
+    let none = nothing_left s.memory.now.vocabulary.name_count c.code-code.result.now c.loop-i.i c.scan-end.result s.list (omega (arith, c.loop-i-test.false)) in
+    let all = entries_there c.requires.some_proposition c.code-code.ensures c.scan-end.ensures s.list in
+    rw all at (none_left g.met.S.UseSink.laws (rw none at c.loop-i.invariant.1))

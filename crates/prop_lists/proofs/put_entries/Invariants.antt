@@ -5,11 +5,11 @@ use Rattle.prop_lists.specs.Entries.{entries_from}
 use Rattle.prop_lists.proofs.Writes.{Left}
 use Rattle.prop_lists.proofs.put_entries.Given as goal
 
-abbrev pub invariant-loop-entry : goal.invariant-loop-entry
-invariant-loop-entry g l =
+abbrev pub invariant-loop-i : goal.invariant-loop-i
+invariant-loop-i g l =
     Row l.names l.code l.i l.end
     × Left g.S.UseSink.puts (entries_from l.names l.list l.code l.at l.end) (entries_from l.names l.list l.code l.i l.end) l.initial.sink l.sink
     × ((name : ℕ) → name < l.names → g.S.UseSink.knows l.sink name)
 
-abbrev pub decreases-loop-entry : goal.decreases-loop-entry
-decreases-loop-entry g l = l.end - l.i
+abbrev pub decreases-loop-i : goal.decreases-loop-i
+decreases-loop-i g l = l.end - l.i
