@@ -1,7 +1,6 @@
 -- One piece more: its pair after the pairs, and its bytes after the bytes.
 use Prim.Native.Nat.{ℕ, ◌+◌, ◌*◌, ◌≤◌, ◌<◌}
 use mathlib.Core.Path.{◌≡◌, refl, sym, ap, ◌∙◌}
-use mathlib.Core.Bool.{true}
 use mathlib.Core.List.{List, [], ◌∷◌, ◌++◌, append_assoc, append-nil}
 use native.Mathlib.Omega.{arith}
 use lib.ListN.{length, take, drop, length-append}
@@ -10,7 +9,6 @@ use Rattle.definitions.specs.Code.{u16}
 use Rattle.definitions.specs.Sheet.{pair_size, name_limit, text_limit}
 use Rattle.definitions.specs.Encode.{concat, encode_pairs}
 use Rattle.output.specs.Numbers.{u16s}
-use Rattle.output.specs.Wrote.{puts}
 use Rattle.appended_parts.specs.declared.Appended.{Appended}
 use Rattle.appended_parts.specs.Appended.{Room, WrotePair, Addable, Appends}
 
@@ -46,9 +44,9 @@ none_appended from none room = record { room = room; count = none.0; size = none
 pub one_appended : {from : ℕ} {ls : List (List ℕ)} {pairs bytes pairs' bytes' : List ℕ} {a : Appended} {size : ℕ} (l : List ℕ)
     → length l ≡ size → Addable from a size → Appends from ls pairs bytes a
     → WrotePair (from + a.length) size pairs (pair_size * a.count) pairs'
-    → bytes' ≡ puts true bytes a.length l
+    → bytes' ≡ sets bytes a.length l
     → Appends from (ls ++ (l ∷ [])) pairs' bytes' (record { count = a.count + 1; length = a.length + size })
-unfolding pair_size puts u16s u16
+unfolding pair_size u16s u16
 one_appended {from} {ls} {pairs} {bytes} {pairs'} {bytes'} {a} {size} l is fits so pair stored =
     let few : length ls < name_limit = omega (arith, fits.few, so.count) in
     let short : length (concat ls) + length l ≤ text_limit = omega (arith, fits.short, so.size) in

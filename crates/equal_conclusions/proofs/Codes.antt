@@ -18,7 +18,6 @@ use Rattle.graft_laws.proofs.MergedSheet.{rename_same, coded}
 use Rattle.definitions.proofs.Shape.{length_renamed}
 use Rattle.graft_laws.proofs.ByNumbers.{equal_by_numbers, host_renumbered}
 use Rattle.number.specs.Pairs.{NameWithin}
-use Rattle.output.specs.Wrote.{puts}
 use Rattle.output.specs.Sinks.{WriterPuts}
 use Rattle.output.specs.declared.writer.Writer.{Writer}
 use Rattle.merged_names.specs.Numbered.{Numbered}
@@ -83,7 +82,6 @@ module _ {s : List ℕ} {h : Sheet} (a : AcceptedSheet s h) where
     -- it fits into a memory for the longest code, and fills its start
     pub code_stored : (numbers : List ℕ) {before after : Writer ℕ} → length before.out.now ≡ code_limit → before.to ≡ 0
         → WriterPuts before (code_over s numbers i) after → (take after.to after.out.now ≡ code_over s numbers i) × (after.to ≤ code_limit)
-    unfolding puts
     code_stored numbers {before} {after} room start put =
         let wrote = rw start at put.wrote in
         let short : length (code_over s numbers i) ≤ code_limit = omega (arith, code_length_lem numbers, short_code i) in

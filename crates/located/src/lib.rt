@@ -1,7 +1,7 @@
 // A refusal as it is handed back: with the column of the step that it names, and as a line.
 #![tactic(auto)]
 
-ghost use Rattle.std.specs.Prelude.{◌≡◌, true, ◌≤◌, length, unwrap_or};
+ghost use Rattle.std.specs.Prelude.{◌≡◌, ◌≤◌, length, unwrap_or};
 ghost use Rattle.definitions.specs.Sheet.{column, step_records};
 ghost use Rattle.definitions.specs.Answers.{names_step, located, column_words, refusal_line};
 ghost use Rattle.output.specs.Wrote.{Wrote};
@@ -80,7 +80,7 @@ fn put_line<S: Sink<u8>>(sink: &mut S, located: Located)
 // The line of a refusal in lent memory: at most 34 bytes. A Display would stop with an error where the memory ends, and this tells the
 // position past it.
 pub fn put_refusal(out: &mut [u8], located: Located) -> usize
-    ensures wrote { Wrote (refusal_line located) true out.old 0 out.new result }
+    ensures wrote { Wrote (refusal_line located) out.old 0 out.new result }
     ensures located_len_bound { length (refusal_line located) ≤ 34 }
 {
     let mut writer = Writer { out, to: 0 };

@@ -5,13 +5,12 @@ use mathlib.Core.Bool.{Bool, true, false, ◌||◌}
 use mathlib.Core.List.{List}
 use native.Mathlib.Omega.{arith}
 use lib.ListN.{length}
-use lib.Seq.{sets-eq}
+use lib.Seq.{sets, sets-eq}
 use borrow.Author.Tests.{lt-ltb, le-ltb}
 use Rattle.definitions.specs.Outcome.{refuse, refuse_if, ◌>>=◌}
 use Rattle.definitions.specs.Sheet.{header_out_of_range}
 use Rattle.definitions.specs.Answers.{is_in_room}
 use Rattle.definitions.specs.Graft.{merged_sheet}
-use Rattle.output.specs.Wrote.{puts}
 use Rattle.output.specs.Written.{filled}
 use Rattle.sheet.specs.declared.header.Sheet.{Sheet}
 use Rattle.std.specs.Prelude.{Ok, Err}
@@ -41,11 +40,11 @@ module _ (s t : List ℕ) (k : ℕ) (deep : Bool) where
     unfolding limited is_in_room refuse_if ◌>>=◌ refuse headed filled
     no_room l = rw (inside, lt-ltb (length before) (length M) l) (record { answer = refl; memory = refl })
 
-    pub written : {m : Sheet} {after text : List ℕ} → length M ≤ length before → m ≡ header_of M → text ≡ M → after ≡ puts true before 0 text
+    pub written : {m : Sheet} {after text : List ℕ} → length M ≤ length before → m ≡ header_of M → text ≡ M → after ≡ sets before 0 text
         → Merging (limited s t k deep (length before)) before after (Ok m)
-    unfolding limited is_in_room refuse_if ◌>>=◌ headed filled puts
+    unfolding limited is_in_room refuse_if ◌>>=◌ headed filled
     written {m} {after} l e f w =
-        let stored : after ≡ puts true before 0 M = rw f at w in
+        let stored : after ≡ sets before 0 M = rw f at w in
         let start : 0 + length M ≡ length M = omega arith in
         rw (inside, le-ltb (length before) (length M) l, e)
         (record { answer = refl; memory = stored ∙ rw start at (sets-eq M before 0 (omega arith)) })

@@ -1,5 +1,5 @@
 -- What is written in turn is written together, within the memory and past its end.
-use Rattle.std.specs.Prelude.{ℕ, ◌+◌, ◌≤◌, ◌<◌, ◌≡◌, Bool, true, false, List, [], ◌∷◌, ◌++◌, length, refl}
+use Rattle.std.specs.Prelude.{ℕ, ◌+◌, ◌≤◌, ◌<◌, ◌≡◌, List, [], ◌∷◌, ◌++◌, length, refl}
 use Prim.Native.Nat.{suc}
 use mathlib.Core.Path.{ap, ◌∙◌}
 use mathlib.Core.Logic.{by_cases}
@@ -8,7 +8,7 @@ use native.Mathlib.Decide.{dec_le}
 use lib.ListN.{set, length-append}
 use lib.Seq.{set_out, length-sets}
 use Rattle.std.proofs.lemmas.List.Edits.{sets}
-use Rattle.output.specs.Wrote.{puts, Wrote}
+use Rattle.output.specs.Wrote.{Wrote}
 
 -- what is stored past the end is dropped
 pub sets_past : {A : Type 0} (l : List A) (i : ℕ) (s : List A) → length l ≤ i → sets l i s ≡ l
@@ -20,66 +20,49 @@ pub sets_append : {A : Type 0} (l : List A) (i : ℕ) (s t : List A) → sets (s
 sets_append l i [] t = ap (λ k. sets l k t) (omega arith)
 sets_append l i (a ∷ s) t = ap (λ k. sets (sets (set l i a) (suc i) s) k t) (omega arith) ∙ sets_append (set l i a) (suc i) s t
 
--- Whether the text is written or not:
-module _ {A : Type 0} (write : Bool) (l : List A) (i : ℕ) (s : List A) where
-  pub puts_past : length l ≤ i → puts write l i s ≡ l
-  unfolding puts
-  puts_past = elim write as (λ k. length l ≤ i → puts k l i s ≡ l) [ true ↦ sets_past l i s | false ↦ λ h. refl ]
-
-  pub puts_append : (t : List A) → puts write (puts write l i s) (i + length s) t ≡ puts write l i (s ++ t)
-  unfolding puts
-  puts_append t = elim write as (λ k. puts k (puts k l i s) (i + length s) t ≡ puts k l i (s ++ t)) [ true ↦ sets_append l i s t | false ↦ refl ]
-
-  pub puts_length : length (puts write l i s) ≡ length l
-  unfolding puts
-  puts_length = elim write as (λ k. length (puts k l i s) ≡ length l) [ true ↦ length-sets l i s | false ↦ refl ]
-
 -- a write keeps the length of the memory
-pub same_length : {A : Type 0} {text before after : List A} {write : Bool} {to next : ℕ} → Wrote text write before to after next → length after ≡ length before
-same_length w = ap length w.stored ∙ puts_length _ _ _ _
+pub same_length : {A : Type 0} {text before after : List A} {to next : ℕ} → Wrote text before to after next → length after ≡ length before
+same_length {text = text} {before = before} {to = to} w = ap length w.stored ∙ length-sets before to text
 
 -- nothing is written
-pub none : {A : Type 0} (write : Bool) (before : List A) (to : ℕ) → Wrote [] write before to before to
-unfolding puts
-none write before to =
-    record { stored = elim write as (λ k. before ≡ puts k before to []) [ true ↦ refl | false ↦ refl ]; within = omega arith; beyond = omega arith }
+pub none : {A : Type 0} (before : List A) (to : ℕ) → Wrote [] before to before to
+none before to = record { stored = refl; within = omega arith; beyond = omega arith }
 
 -- A text is written and then another where the first one ended: that is to write both at once.
 module _
     {A : Type 0}
     {s t before mid after : List A}
-    {write : Bool}
     {to at next : ℕ}
-    (a : Wrote s write before to mid at)
-    (b : Wrote t write mid at after next)
+    (a : Wrote s before to mid at)
+    (b : Wrote t mid at after next)
   where
     -- the first one fits
-    then_within : to + length s ≤ length before → Wrote (s ++ t) write before to after next
+    then_within : to + length s ≤ length before → Wrote (s ++ t) before to after next
     then_within h =
         let sum = length-append s t in
         let same = same_length a in
         let here = a.within h in
         record {
-          stored = b.stored ∙ rw (here, a.stored) (puts_append write before to s t);
+          stored = b.stored ∙ rw (here, a.stored) (sets_append before to s t);
           within = λ k. let e = b.within (omega arith) in omega arith;
           beyond = λ k. let e = b.beyond (omega arith) in omega arith;
         }
 
     -- the first one does not fit, and all of the other is dropped
-    then_past : length before < to + length s → Wrote (s ++ t) write before to after next
+    then_past : length before < to + length s → Wrote (s ++ t) before to after next
     then_past h =
         let sum = length-append s t in
         let same = same_length a in
         let past = a.beyond h in
         record {
           stored = cc (
-            puts_append write before to s t,
-            puts_past write mid at t (omega arith),
-            puts_past write mid (to + length s) t (omega arith),
+            sets_append before to s t,
+            sets_past mid at t (omega arith),
+            sets_past mid (to + length s) t (omega arith),
           );
           within = omega arith;
           beyond = λ k. let e = b.beyond (omega arith) in omega arith;
         }
 
-    pub then : Wrote (s ++ t) write before to after next
+    pub then : Wrote (s ++ t) before to after next
     then = by_cases (dec_le (to + length s) (length before)) then_within (λ h. then_past (omega arith))

@@ -1,6 +1,5 @@
 -- The laws of both sinks.
 use mathlib.Core.Path.{refl, ◌∙◌}
-use mathlib.Core.Bool.{true}
 use mathlib.Core.List.{List, [], ◌++◌}
 use native.Mathlib.Omega.{arith}
 use lib.ListN.{length-append}
@@ -11,7 +10,7 @@ use Rattle.output.specs.declared.counter.Counter.{Counter}
 use Rattle.output.specs.Joins as joins
 
 pub writer_none : {A : Type 0} (a : Writer A) → WriterPuts a [] a
-writer_none a = record { wrote = joins.none true a.out.now a.to; same_memory = refl }
+writer_none a = record { wrote = joins.none a.out.now a.to; same_memory = refl }
 
 pub writer_then : {A : Type 0} {a b c : Writer A} {s t : List A} → WriterPuts a s b → WriterPuts b t c → WriterPuts a (s ++ t) c
 writer_then h k = record { wrote = joins.then h.wrote k.wrote; same_memory = k.same_memory ∙ h.same_memory }

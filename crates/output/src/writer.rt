@@ -1,8 +1,9 @@
 // The sink that writes into lent memory.
 #![tactic(auto)]
 
-ghost use Rattle.std.specs.Prelude.{[], ◌∷◌, ◌≡◌, ◌-◌, ◌^◌, ◌<◌, ◌≤◌, true, min, length, take};
-ghost use Rattle.output.specs.Wrote.{puts, Wrote};
+ghost use Rattle.std.specs.Prelude.{[], ◌∷◌, ◌≡◌, ◌-◌, ◌^◌, ◌<◌, ◌≤◌, min, length, take};
+ghost use Rattle.std.proofs.lemmas.List.Edits.{sets};
+ghost use Rattle.output.specs.Wrote.{Wrote};
 
 use crate::sink::Sink;
 
@@ -34,10 +35,9 @@ impl<'a, T: Copy + Drop> Sink<T> for Writer<'a, T> {
 }
 
 // Stores an element, and returns the position behind it, or one past the end.
-#[tactic(auto, unfolding(crate::specs::Wrote::puts))]
 fn store<T: Copy + Drop>(out: &mut [T], to: usize, item: T) -> usize
     requires { length out.old < 2 ^ 63 }
-    ensures { Wrote (item ∷ []) true out.old to out.new result }
+    ensures { Wrote (item ∷ []) out.old to out.new result }
 {
     if out.len() <= to {
         return out.len() + 1;
@@ -49,7 +49,7 @@ fn store<T: Copy + Drop>(out: &mut [T], to: usize, item: T) -> usize
 // Stores all elements that fit, and returns the position behind them, or one past the end.
 fn store_all<T: Copy + Drop>(out: &mut [T], to: usize, s: &[T]) -> usize
     requires { length out.old < 2 ^ 63 }
-    ensures { Wrote s.now true out.old to out.new result }
+    ensures { Wrote s.now out.old to out.new result }
 {
     let count = fitting(out.len(), to, s.len());
     copy(out, to, &s[..count]);
@@ -67,10 +67,10 @@ fn fitting(length: usize, to: usize, count: usize) -> usize
 }
 
 // Stores elements that lie within the memory.
-#[tactic(auto, using(crate::proofs::Writing::stored_part), unfolding(crate::specs::Wrote::puts))]
+#[tactic(auto, using(crate::proofs::Writing::stored_part))]
 fn copy<T: Copy + Drop>(out: &mut [T], to: usize, part: &[T])
     requires { length part.now ≤ length out.old - to }
-    ensures { out.new ≡ puts true out.old to part.now }
+    ensures { out.new ≡ sets out.old to part.now }
 {
     // Past the end nothing fits, and there is no part to name.
     if 0 < part.len() {

@@ -1,7 +1,7 @@
 -- How the strength and the text of a proposition follow from its byte in front and from its parts.
 use Prim.Native.Nat.{ℕ, ◌+◌, ◌<◌}
 use mathlib.Core.Path.{◌≡◌, refl, sym, ap, subst, ◌∙◌}
-use mathlib.Core.Bool.{Bool, true, false, cond}
+use mathlib.Core.Bool.{true, false, cond}
 use mathlib.Core.List.{List, [], ◌∷◌, ◌++◌, append_assoc}
 use native.Mathlib.Omega.{arith}
 use lib.ListN.{get_or}
@@ -14,7 +14,6 @@ use Rattle.definitions.specs.Code.{encode}
 use Rattle.definitions.specs.Sheet.{number_at}
 use Rattle.definitions.specs.Display.{wrap, is_negation, connective_precedence, precedence, wraps_left, wraps_right, connective_text, quantifier_text, display_prop}
 use Rattle.definitions.proofs.Connectives.{eq_connective_true}
-use Rattle.output.specs.Wrote.{Wrote}
 use Rattle.prefix_code.proofs.Heads.{connective_byte_lem, quantifier_byte_lem}
 use Rattle.prefix_code.specs.PropAt.{prop_at}
 use Rattle.prop.specs.Ends.{Known}
@@ -23,9 +22,6 @@ use Rattle.prop.proofs.Parts.{head_byte, head_byte_lem, BinaryParts, binary_part
 -- a number that is below, and a text that was put, by what they equal
 pub below_as : {a b n : ℕ} → a ≡ b → b < n → a < n
 below_as e h = omega arith
-
-pub written_as : {s t before after : List ℕ} {write : Bool} {to next : ℕ} → s ≡ t → Wrote s write before to after next → Wrote t write before to after next
-written_as e w = rw e at w
 
 pub put_as : {S : Type 0} (puts : S → List ℕ → S → Type 0) {before after : S} {s t : List ℕ} → s ≡ t → puts before s after → puts before t after
 put_as puts {before = before} {after = after} e w = let P : List ℕ → Type 0 = λ text. puts before text after in subst P e w

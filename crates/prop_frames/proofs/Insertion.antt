@@ -1,7 +1,6 @@
 -- One byte is put in front of code that is stored.
 use Prim.Native.Nat.{ℕ, zero, suc, ◌+◌, ◌-◌, ◌≤◌, ◌<◌, min}
 use mathlib.Core.Path.{◌≡◌, refl, sym, ap, ◌∙◌}
-use mathlib.Core.Bool.{true}
 use mathlib.Core.Logic.{by_cases}
 use mathlib.Core.List.{List, [], ◌∷◌, ◌++◌, append_assoc}
 use native.Mathlib.Omega.{arith}
@@ -10,7 +9,6 @@ use lib.ListN.{length, get_or, set, take, drop, length-set, length-take, length-
 use Rattle.std.proofs.lemmas.List.{drop-drop}
 use Rattle.std.specs.List.{copy_within}
 use lib.Seq.{sets, take-suc, take-take, length-sets, drop-cons, drop-set-lt, set-set, get_or-set_same, get_or-set_other}
-use Rattle.output.specs.Wrote.{puts}
 use Rattle.output.proofs.Writing.{sets_past, fitting_part, stored_part}
 use Rattle.atom_reader.proofs.Storing.{set_sets}
 use Rattle.prop_frames.specs.Sides.{inserted}
@@ -49,7 +47,7 @@ module _ (l : List ℕ) (to b : ℕ) (inside : to < length l) where
 
   moved_by : {n : ℕ} {moved : List ℕ} (size k : ℕ) → n ≡ k → suc k ≡ min (length l - to) (suc size)
       → moved ≡ (take (to + 1) l ++ take n (drop to l)) ++ drop (to + 1 + n) l → set moved to b ≡ inserted l to size b
-  unfolding inserted puts
+  unfolding inserted
   moved_by size k e room moves =
       let text = b ∷ take size (drop to l) in
       let cut : b ∷ take k (drop to l) ≡ take (suc k) text = ap (λ t. b ∷ t) (sym (take-take k size (drop to l) (omega arith))) in
@@ -57,7 +55,7 @@ module _ (l : List ℕ) (to b : ℕ) (inside : to < length l) where
       let behind : drop (to + 1 + k) l ≡ drop (suc k) (drop to l) =
       let sum : to + 1 + k ≡ to + suc k = omega arith in
       rw sum (sym (drop-drop (suc k) to l)) in
-      fitting_part true l to text {fit = suc k} (omega (arith, length-take size (drop to l), length-drop to l))
+      fitting_part l to text {fit = suc k} (omega (arith, length-take size (drop to l), length-drop to l))
       (rw (moves, e, first_stored (take k (drop to l)) (drop (to + 1 + k) l), behind)
       (stored_part to (suc k) l (b ∷ take k (drop to l)) (sym sized) (omega arith) ∙ ap (sets l to) cut))
 

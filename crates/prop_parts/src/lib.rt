@@ -133,7 +133,6 @@ pub fn read_name(text: &[u8], at: usize, names: &mut NameTable) -> Option<NameRe
 }
 
 // Bytes of code from `to` on.
-#[tactic(auto, unfolding(output::specs::Wrote::puts))]
 fn store(code: &mut [u8], to: usize, bytes: &[u8])
     ensures { code.new ≡ sets code.old to bytes.now }
 {
@@ -149,7 +148,6 @@ pub fn put(code: &mut [u8], to: usize, b: u8)
 }
 
 // A number of two bytes, low byte first.
-#[tactic(auto, unfolding(output::specs::Wrote::puts))]
 pub fn put_u16(code: &mut [u8], to: usize, n: usize)
     requires { n < 65536 }
     ensures { code.new ≡ sets code.old to (u16 n) }

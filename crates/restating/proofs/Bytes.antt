@@ -14,7 +14,7 @@ use Rattle.definitions.specs.Assemble.{header_bytes, assemble, parts_of}
 use Rattle.definitions.specs.Restate as restate
 use Rattle.definitions.specs.Restate.{new_record, with_step}
 use Rattle.output.specs.Numbers.{u16s}
-use Rattle.output.specs.Wrote.{Wrote, puts}
+use Rattle.output.specs.Wrote.{Wrote}
 use Rattle.sheet.specs.declared.header.Sheet.{Sheet}
 use Rattle.sheet.specs.declared.header.Layout.{Layout}
 use Rattle.sheet.specs.Header.{header_of, layout_of, InRange}
@@ -36,9 +36,8 @@ unfolding new_record encode_rule encode_identifier u16 step_size
 record_length g = refl
 
 -- a memory that a text fills is the text
-whole_memory : {text before after : List ℕ} {next : ℕ} → Wrote text true before 0 after next → length before ≡ length text
+whole_memory : {text before after : List ℕ} {next : ℕ} → Wrote text before 0 after next → length before ≡ length text
     → after ≡ text
-unfolding puts
 whole_memory {text} {before} w e =
     w.stored ∙ sets-eq text before 0 (omega arith) ∙ ap (λ rest. text ++ rest) (none_left (0 + length text) (omega arith))
     ∙ append-nil text
@@ -46,16 +45,11 @@ whole_memory {text} {before} w e =
     none_left : (n : ℕ) → n ≡ length before → drop n before ≡ []
     none_left n same = rw (same, drop-length before)
 
--- a text is as long as a dry run of it finds
-pub measured : (text before : List ℕ) → Wrote text false before 0 before (length text)
-unfolding puts
-measured text before = record { stored = refl; within = λ h. omega arith; beyond = λ h. omega arith }
-
 -- so a memory of a record's size is the record
 pub record_filled : (g : Given) {before after : List ℕ} {next : ℕ}
     → Wrote
     ((16 ∷ 1 ∷ 0 ∷ 0 ∷ 0 ∷ 0 ∷ 0 ∷ 0 ∷ 0 ∷ 0 ∷ []) ++ u16s (g.kind ∷ g.first ∷ g.second ∷ g.third ∷ g.column ∷ []))
-    true before 0 after next
+    before 0 after next
     → length before ≡ step_size → after ≡ new_record (given_of g)
 record_filled g w e = whole_memory (rw (record_bytes g) at w) (e ∙ sym (record_length (given_of g)))
 

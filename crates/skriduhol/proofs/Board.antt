@@ -1,7 +1,6 @@
 -- The board's output: a refused text left the lent memory as it was, for the refusal's line.
 use Prim.Native.Nat.{ℕ, ◌+◌, ◌≤◌}
 use mathlib.Core.Path.{◌≡◌, ◌∙◌}
-use mathlib.Core.Bool.{true}
 use mathlib.Core.List.{List}
 use native.Mathlib.Omega.{arith}
 use lib.ListN.{length}
@@ -11,14 +10,13 @@ use Rattle.definitions.specs.declared.Style.TheVariants.{Plain}
 use Rattle.definitions.specs.Outcome.{Outcome, refused, accepted}
 use Rattle.definitions.specs.Answers.{text_answer, board_room, located, refusal_line, printed, board_output}
 use Rattle.output.specs.Written.{filled}
-use Rattle.output.specs.Wrote.{puts, Wrote}
+use Rattle.output.specs.Wrote.{Wrote}
 use Rattle.std.specs.Prelude.{Result, Ok, Err, ℕ}
 use Rattle.skriduhol.specs.Board.{Prints}
 use Rattle.skriduhol.specs.Located.{filled_of, FillsOf}
 
 -- what is written from the start and fits is what is printed
-prints : {text before after : List ℕ} {next : ℕ} → length text ≤ length before → Wrote text true before 0 after next → Prints text before after next
-unfolding puts
+prints : {text before after : List ℕ} {next : ℕ} → length text ≤ length before → Wrote text before 0 after next → Prints text before after next
 prints {text} {before} fits w =
     let start : 0 + length text ≡ length text = omega arith in
     record {
@@ -37,7 +35,7 @@ text_printed s (refused x) fills e = absurd (let y : ◌≡◌ {A = ℕ} 0 1 = c
 line_printed : (s : List ℕ) (o : Outcome (List ℕ)) {before mid after : List ℕ} {r : Result ℕ Located} {l : Located} {n : ℕ} → 34 ≤ length before
     → FillsOf s o before mid r
     → r ≡ Err l
-    → Wrote (refusal_line l) true mid 0 after n
+    → Wrote (refusal_line l) mid 0 after n
     → length (refusal_line l) ≤ 34
     → Prints (printed s o) before after n
 unfolding printed filled_of filled
@@ -60,7 +58,7 @@ module _
     prints_text e = text_printed s _ (rw room at fills) e
 
     pub prints_line : {after : List ℕ} {l : Located} {n : ℕ} → r ≡ Err l
-        → (Wrote (refusal_line l) true mid 0 after n) × (length (refusal_line l) ≤ 34)
+        → (Wrote (refusal_line l) mid 0 after n) × (length (refusal_line l) ≤ 34)
         → Prints (board_output s) before after n
     unfolding board_output board_room
     prints_line e line = line_printed s _ (omega (arith, room)) (rw room at fills) e line.0 line.1

@@ -1,7 +1,6 @@
 -- The lists of a sheet's term: what is measured and then written is the answer.
 use Prim.Native.Nat.{ℕ, ◌≤◌, ◌<◌}
 use mathlib.Core.Path.{◌≡◌}
-use mathlib.Core.Bool.{true, false}
 use mathlib.Core.List.{List}
 use lib.ListN.{length}
 use Rattle.definitions.specs.declared.Refusal.{Refusal}
@@ -42,11 +41,13 @@ module _ {s : List ℕ} (a : Accepted s) {words : Vocabulary} (same : words ≡ 
   term_is : sheet_term s ≡ accepted (term_in s words terms n)
   term_is = rw (props_are (has_header a.sheet) same) t.is_term
 
-  -- the list is measured by a dry run, and then written where it fits
-  module _ (list : TermList) {before dry : List ℕ} {end : ℕ} (d : Wrote (list_numbers list (term_in s words terms n)) false before 0 dry end) where
-    pub too_long : length before < end → Fills (list_answer list s (length before)) before dry (Err (record { number = 16; place = 0 }))
-    too_long l = rw (list_of list s term_is (length before)) (filling.too_long d l)
+  -- the list is counted, and then written where it fits
+  module _ (list : TermList) {before : List ℕ} where
+    pub too_long : length before < length (list_numbers list (term_in s words terms n))
+        → Fills (list_answer list s (length before)) before before (Err (record { number = 16; place = 0 }))
+    too_long l = rw (list_of list s term_is (length before)) (filling.too_long _ _ l)
 
-    pub fills : end ≤ length before → {after : List ℕ} {next : ℕ} → Wrote (list_numbers list (term_in s words terms n)) true dry 0 after next
+    pub fills : {end : ℕ} → end ≡ length (list_numbers list (term_in s words terms n)) → end ≤ length before
+        → {after : List ℕ} {next : ℕ} → Wrote (list_numbers list (term_in s words terms n)) before 0 after next
         → Fills (list_answer list s (length before)) before after (Ok end)
-    fills l w = rw (list_of list s term_is (length before)) (filling.fills d l w)
+    fills long l w = rw (list_of list s term_is (length before)) (filling.fills long l w)

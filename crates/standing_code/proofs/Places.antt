@@ -2,7 +2,6 @@
 use Prim.Native.Nat.{ℕ, ◌+◌, ◌-◌, ◌≤◌, ◌<◌}
 use mathlib.Core.Path.{◌≡◌, refl, sym, ap, ◌∙◌}
 use mathlib.Core.Logic.{by_cases}
-use mathlib.Core.Bool.{true}
 use mathlib.Core.List.{List, [], ◌∷◌, ◌++◌, append_assoc}
 use native.Mathlib.Omega.{arith}
 use native.Mathlib.Decide.{dec_lt}
@@ -12,7 +11,6 @@ use Rattle.definitions.specs.Prop.{Prop, rename_prop}
 use Rattle.definitions.specs.Code.{encode, Codable}
 use Rattle.definitions.specs.Sheet.{marked, pair_offset, pair_length, pair_end}
 use Rattle.definitions.proofs.PrefixCode.{encode_injective}
-use Rattle.output.specs.Wrote.{puts}
 use Rattle.renumbering.specs.Renumbered.{mapped}
 use Rattle.standing_code.specs.Over.{code_space, Codes, CodeStands}
 use Rattle.standing_code.proofs.Sizes.{same_long}
@@ -64,9 +62,9 @@ module _ {names : ℕ} {pairs code : List ℕ} {count : ℕ} {numbers first : Li
         (rw length-drop (omega (arith, c.ends k l)))
 
     pub one_more : {after : List ℕ} {at : ℕ} {piece : List ℕ} → at ≡ pair_offset pairs k → piece ≡ marked pairs code k
-        → ((p : Prop ℕ) → Codable names p → piece ≡ encode p → after ≡ puts true out at (encode (rename_prop (mapped numbers) p)))
+        → ((p : Prop ℕ) → Codable names p → piece ≡ encode p → after ≡ sets out at (encode (rename_prop (mapped numbers) p)))
         → Below (k + 1) after
-    unfolding puts pair_end
+    unfolding pair_end
     one_more {after} {at} {piece} is cut put =
         let v = c.whole k l in
         let text = encode (rename_prop (mapped numbers) v.value) in

@@ -2,7 +2,6 @@
 -- fills the memory lent for it or does not fit.
 use Prim.Native.Nat.{ℕ, ◌+◌, ◌≤◌, ◌<◌}
 use mathlib.Core.Path.{◌≡◌, refl, sym, ap, ◌∙◌}
-use mathlib.Core.Bool.{Bool, true, false}
 use mathlib.Core.List.{List, [], ◌∷◌, ◌++◌}
 use native.Mathlib.Omega.{arith}
 use lib.ListN.{length, length-append}
@@ -23,7 +22,7 @@ use Rattle.std.specs.Prelude.{Ok, Err}
 use Rattle.output.specs.SinkLaws.{SinkLaws}
 use Rattle.output.specs.Wrote.{Wrote}
 use Rattle.output.specs.Written.{written_of, Fills}
-use Rattle.output.proofs.Writing.{then, dry_run}
+use Rattle.output.proofs.Writing.{then}
 use Rattle.output.proofs.Filling.{too_long, fills}
 use Rattle.declarations.specs.declared.Declaration.{Declaration}
 use Rattle.declarations.specs.Memory.{declared_uses, Declared}
@@ -139,20 +138,17 @@ module _ {s terms : List ℕ} {n : ℕ} (held : HeldTerm s terms n) where
     length_told long = let is = long _ sheet_text_lem in rw (sheet_text_lem, is)
 
     -- the heading, and then the term
-    text_written : {write : Bool} {out₀ out₁ out₂ : List ℕ} {to₁ to₂ : ℕ}
-        → ((t : ProofTerm Name) → named_term s ≡ accepted t → Wrote (heading v t (goal_prop s)) write out₀ 0 out₁ to₁)
-        → Wrote (display_term style (term_of s terms n)) write out₁ to₁ out₂ to₂
-        → Wrote (text v style (term_of s terms n) (goal_prop s)) write out₀ 0 out₂ to₂
+    text_written : {out₀ out₁ out₂ : List ℕ} {to₁ to₂ : ℕ}
+        → ((t : ProofTerm Name) → named_term s ≡ accepted t → Wrote (heading v t (goal_prop s)) out₀ 0 out₁ to₁)
+        → Wrote (display_term style (term_of s terms n)) out₁ to₁ out₂ to₂
+        → Wrote (text v style (term_of s terms n) (goal_prop s)) out₀ 0 out₂ to₂
     unfolding text
     text_written first second = then (first _ named_term_lem) second
 
     -- the text is refused for want of room: the term alone is too long, or the whole text is
     no_room : {before : List ℕ} → length before < length (text v style (term_of s terms n) (goal_prop s))
         → Fills (is_in_room (length before) (sheet_text s v style)) before before (Err (record { number = 16; place = 0 }))
-    no_room {before} past =
-        let whole : List ℕ = text v style (term_of s terms n) (goal_prop s) in
-        let dry : Wrote whole false before 0 before (length whole) = dry_run refl (λ k. omega arith) (λ k. omega arith) in
-        rw sheet_text_lem (too_long dry past)
+    no_room past = rw sheet_text_lem (too_long _ _ past)
 
     -- Of the length of the term:
     module _ {size : ℕ} (term : TermLength (display_term style (term_of s terms n)) size) where
@@ -179,11 +175,7 @@ module _ {s terms : List ℕ} {n : ℕ} (held : HeldTerm s terms n) where
         text_too_long {before} past = no_room {before = before} (omega (arith, whole_length))
 
         pub text_fills : {before middle after : List ℕ} {to next : ℕ} → start + size ≤ length before
-            → ((t : ProofTerm Name) → named_term s ≡ accepted t → Wrote (heading v t (goal_prop s)) true before 0 middle to)
-            → Wrote (display_term style (term_of s terms n)) true middle to after next
+            → ((t : ProofTerm Name) → named_term s ≡ accepted t → Wrote (heading v t (goal_prop s)) before 0 middle to)
+            → Wrote (display_term style (term_of s terms n)) middle to after next
             → Fills (is_in_room (length before) (sheet_text s v style)) before after (Ok (start + size))
-        text_fills {before} within upper lower =
-            let whole : List ℕ = text v style (term_of s terms n) (goal_prop s) in
-            let dry : Wrote whole false before 0 before (start + size) =
-            dry_run refl (λ k. omega (arith, whole_length)) (λ k. omega (arith, whole_length)) in
-            rw sheet_text_lem (fills dry within (text_written upper lower))
+        text_fills within upper lower = rw sheet_text_lem (fills whole_length within (text_written upper lower))

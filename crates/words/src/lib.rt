@@ -161,7 +161,7 @@ pub struct NameTable {
 }
 
 // Stores a number at an offset, low byte first.
-#[tactic(auto, unfolding(output::specs::Wrote::puts, crate::specs::Table::with_number))]
+#[tactic(auto, unfolding(crate::specs::Table::with_number))]
 fn put_number(pairs: &mut [u8], at: usize, number: usize)
     requires { (at + 1 < length pairs.old) × (number < 65536) }
     ensures { pairs.new ≡ with_number pairs.old at number }

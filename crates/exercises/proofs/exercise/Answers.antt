@@ -2,13 +2,14 @@
 use Prim.Native.Nat.{ℕ}
 use mathlib.Core.Path.{◌≡◌, refl}
 use native.Mathlib.Omega.{arith}
+use lib.ListN.{length}
 use borrow.Author.Rules.{rules}
 use Rattle.std.specs.Prelude.{Some, None, Err}
 use Rattle.definitions.specs.Outcome.{accepted}
 use Rattle.definitions.specs.Answers.{is_in_room}
 use Rattle.definitions.specs.Exercises.{exercise_answer}
 use Rattle.output.proofs.Filling as filling
-use Rattle.output.proofs.Writing.{counted_dry}
+use Rattle.output.proofs.Filling.{counted_past, counted_whole}
 use Rattle.exercises.specs.Sizes.{Few, code_at, LocatedAt}
 use Rattle.exercises.proofs.Answering.{Named, named, bad_names_lem, large, past, answered, refuses}
 use Rattle.exercises.proofs.exercise.Goals as goal
@@ -61,7 +62,7 @@ put_sized-requires c = (few (goal.at.put_sized-requires c).In_ok-place, (located
 pub returns-then-out-length : goal.returns-then-out-length
 returns-then-out-length c =
     rw (the_answer (goal.at.returns-then-out-length c).In_ok-place _, c.at-then-out-length.ensures)
-    (filling.too_long (counted_dry refl (search rules) c.put_sized.ensures) (omega arith))
+    (filling.too_long _ _ (counted_past refl c.put_sized.ensures (omega arith)))
 
 pub put_sized-requires-2 : goal.put_sized-requires-2
 put_sized-requires-2 c = (few (goal.at.put_sized-requires-2 c).In_ok-place, (located (goal.at.put_sized-requires-2 c).In_ok-place).below)
@@ -69,4 +70,4 @@ put_sized-requires-2 c = (few (goal.at.put_sized-requires-2 c).In_ok-place, (loc
 pub returns : goal.returns
 returns c =
     rw (the_answer (goal.at.returns c).In_ok-place _)
-    (filling.fills (counted_dry refl (search rules) c.put_sized.ensures) {next = c.put_sized-2.new.sink.to} (omega arith) (search rules))
+    (filling.fills {next = c.put_sized-2.new.sink.to} (counted_whole refl c.put_sized.ensures {room = length c.args.out.now} (search rules) (omega arith)) (omega arith) (search rules))

@@ -1,8 +1,9 @@
 -- The labels of a term that is held can be listed; the list is counted and then written. The refusal of a term is the answer.
 use mathlib.Core.Path.{◌≡◌, refl}
 use native.Mathlib.Omega.{arith}
+use lib.ListN.{length}
 use Rattle.std.proofs.Common.{rules}
-use Rattle.output.proofs.Writing.{counted_dry}
+use Rattle.output.proofs.Filling.{counted_past, counted_whole}
 use Rattle.proof_term_lists.specs.Labels.{Listable}
 use Rattle.text.specs.Declaring.{sheet_vocabulary}
 use Rattle.text.proofs.Labels as labels
@@ -27,7 +28,7 @@ returns-then-out-length c =
     let given = c.in_ok-sheet.ensures in
     rw c.at.ensures
     (too_long given.sheet (its_vocabulary (goal.at.returns-then-out-length c).After-vocabulary-v) given.term _
-    (counted_dry refl (search rules) c.put_term_list.ensures) (omega arith))
+    (counted_past refl c.put_term_list.ensures (omega arith)))
 
 pub put_term_list-requires-2 : goal.put_term_list-requires-2
 put_term_list-requires-2 c = listable (goal.at.put_term_list-requires-2 c).After-vocabulary-v
@@ -36,4 +37,4 @@ pub returns : goal.returns
 returns c =
     let given = c.in_ok-sheet.ensures in
     fills given.sheet (its_vocabulary (goal.at.returns c).After-vocabulary-v) given.term _
-    (counted_dry refl (search rules) c.put_term_list.ensures) (omega arith) {next = c.put_term_list-2.new.sink.to} (search rules)
+    (counted_whole refl c.put_term_list.ensures {room = length c.args.out.now} (search rules) (omega arith)) (omega arith) {next = c.put_term_list-2.new.sink.to} (search rules)

@@ -6,9 +6,9 @@ use Rattle.output.proofs.writer.store_all.Goals as goal
 pub returns-then-count-s : goal.returns-then-count-s
 returns-then-count-s g c =
     let fits = c.fitting-count.ensures in
-    fits_partly refl fits (fitting_part _ _ _ _ fits c.copy.ensures) c.if-count-s.true
+    fits_partly refl fits (fitting_part _ _ _ fits c.copy.ensures) c.if-count-s.true
 
 pub returns : goal.returns
 returns g c =
     let fits = c.fitting-count.ensures in
-    fits_whole refl fits (fitting_part _ _ _ _ fits c.copy.ensures) c.if-count-s.false
+    fits_whole refl fits (fitting_part _ _ _ fits c.copy.ensures) c.if-count-s.false
