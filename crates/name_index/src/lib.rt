@@ -6,12 +6,12 @@ ghost use Rattle.definitions.specs.Name.{Name, eq_name};
 ghost use Rattle.definitions.specs.Sheet.{name_limit};
 ghost use Rattle.definitions.specs.NameIndex as names;
 ghost use Rattle.definitions.specs.NameIndex.{wrap, start_slot, slot_count, slot_at, free, index};
-ghost use Rattle.vocabulary.specs.Vocabulary.{name_in, Within};
+ghost use Rattle.vocabulary.specs.Memory.{name_of, LiesWithin};
 ghost use Rattle.name_index.specs.Probed.{Taken, probed};
 
 use identifier::same_name;
 use number::{pair_length, pair_offset};
-use vocabulary::{Vocabulary, pairs_of, text_of};
+use vocabulary::Memory;
 
 // How many slots there are.
 pub const SLOT_COUNT: usize = 1024;
@@ -49,16 +49,16 @@ fn cut(bytes: &[u8], start: usize, count: usize) -> &[u8]
 }
 
 // The name of a number, whatever its pair says: cut at the end of the text, and empty where there is no pair.
-pub fn any_name(bytes: &[u8], v: Vocabulary, i: usize) -> &[u8]
-    requires { Within bytes.now v }
-    ensures { result.now ≡ name_in bytes.now v i }
+pub fn any_name<'m>(memory: &Memory<'m>, i: usize) -> &'m [u8]
+    requires { LiesWithin memory.now }
+    ensures { result.now ≡ name_of memory.now i }
 {
-    if v.name_count <= i {
-        return cut(bytes, 0, 0);
+    if memory.vocabulary.name_count <= i {
+        return cut(memory.bytes, 0, 0);
     }
-    let pairs = pairs_of(bytes, v);
+    let pairs = memory.pairs();
     cut(
-        text_of(bytes, v),
+        memory.text(),
         pair_offset(pairs, i),
         pair_length(pairs, i),
     )
@@ -67,10 +67,9 @@ pub fn any_name(bytes: &[u8], v: Vocabulary, i: usize) -> &[u8]
 // The names of a memory, with slots beside them.
 #[derive(Clone, Copy)]
 pub struct Index<'a> {
-    pub bytes: &'a [u8],
-    pub v: Vocabulary,
+    pub memory: Memory<'a>,
     pub slots: &'a [u16],
-    pub ghost within: { Within bytes.now v },
+    pub ghost within: { LiesWithin memory },
     pub ghost whole: { length slots.now ≡ slot_count },
 }
 
@@ -104,14 +103,14 @@ pub fn probe_by<F: Fn(usize) -> bool>(
 impl Index<'_> {
     // Whether the name of a number has these bytes.
     fn is_named(&self, i: usize, name: &[u8]) -> bool
-        ensures { result ≡ eq_name (name_in self.now.bytes.now self.now.v i) name.now }
+        ensures { result ≡ eq_name (name_of self.now.memory i) name.now }
     {
-        same_name(any_name(self.bytes, self.v, i), name)
+        same_name(any_name(&self.memory, i), name)
     }
 
     // The number of a name with equal bytes, or the slot that the name would enter.
     pub fn probe(&self, name: &[u8]) -> Result<usize, usize>
-        ensures { result ≡ probed (name_in self.now.bytes.now self.now.v) self.now.slots.now name.now }
+        ensures { result ≡ probed (name_of self.now.memory) self.now.slots.now name.now }
     {
         probe_by(self.slots, name, |i| self.is_named(i, name))
     }
@@ -119,33 +118,36 @@ impl Index<'_> {
     // What the slots answer: the number of a name with equal bytes, or that there is none.
     #[tactic(auto, using(crate::proofs::Entering::found_held, crate::proofs::Entering::found_absent))]
     pub fn find(&self, name: &[u8]) -> Option<usize>
-        ensures { result ≡ (names.find (name_in self.now.bytes.now self.now.v) self.now.slots.now name.now) }
+        ensures { result ≡ (names.find (name_of self.now.memory) self.now.slots.now name.now) }
     {
         self.probe(name).ok()
     }
 }
 
 // Name i enters the index of the names before it, if it does not repeat one of them.
-pub fn enter(slots: &mut [u16], bytes: &[u8], v: Vocabulary, i: usize)
-    requires i_lt_name_limit { (i < name_limit) × Within bytes.now v }
-    requires slots_value { slots.old ≡ index (name_in bytes.now v) i }
-    ensures { slots.new ≡ index (name_in bytes.now v) (i + 1) }
+pub fn enter(slots: &mut [u16], memory: &Memory, i: usize)
+    requires i_lt_name_limit { (i < name_limit) × LiesWithin memory.now }
+    requires slots_value { slots.old ≡ index (name_of memory.now) i }
+    ensures { slots.new ≡ index (name_of memory.now) (i + 1) }
 {
-    let index = Index { bytes, v, slots };
-    let Err(at) = index.probe(any_name(bytes, v, i)) else {
+    let index = Index {
+        memory: *memory,
+        slots,
+    };
+    let Err(at) = index.probe(any_name(memory, i)) else {
         return;
     };
     slots[at] = i as u16;
 }
 
 // The index of a memory's names, in slots that the caller lends, as C callers do. A name's number is the loop's own count.
-pub fn build(slots: &mut [u16], bytes: &[u8], v: Vocabulary)
-    requires slots_len { (length slots.old ≡ slot_count) × Within bytes.now v }
-    requires name_count_bound { v.name_count ≤ name_limit }
-    ensures { slots.new ≡ index (name_in bytes.now v) v.name_count }
+pub fn build(slots: &mut [u16], memory: &Memory)
+    requires slots_len { (length slots.old ≡ slot_count) × LiesWithin memory.now }
+    requires name_count_bound { memory.now.vocabulary.name_count ≤ name_limit }
+    ensures { slots.new ≡ index (name_of memory.now) memory.now.vocabulary.name_count }
 {
     slots.fill(FREE);
-    for i in 0..v.name_count {
-        enter(slots, bytes, v, i);
+    for i in 0..memory.vocabulary.name_count {
+        enter(slots, memory, i);
     }
 }

@@ -2,7 +2,7 @@
 use Rattle.std.proofs.Common.{◌≡◌, sym, ◌∙◌, arith}
 use Rattle.definitions.specs.Sheet.{name_limit}
 use Rattle.definitions.specs.NameIndex.{slot_count}
-use Rattle.vocabulary.specs.Vocabulary.{name_in}
+use Rattle.vocabulary.specs.Memory.{name_of}
 use Rattle.name_index.specs.Probed.{probed}
 use Rattle.std.specs.Prelude.{Err}
 use Rattle.name_index.proofs.Entering.{index_size, repeated, entered, absent_below}
@@ -12,7 +12,7 @@ use Rattle.name_index.proofs.enter.Goals.{In-Err}
 -- the name is absent: the slot that it would enter
 would_enter : (c : In-Err) →
     let a = c.args in
-    probed (name_in a.bytes.now a.v) a.slots.now c.any_name.result.now ≡ Err c.in-Err.at
+    probed (name_of a.memory.now) a.slots.now c.any_name.result.now ≡ Err c.in-Err.at
 would_enter c = sym c.probe.ensures ∙ c.in-Err.is
 
 pub invariant_of-index : goal.invariant_of-index
