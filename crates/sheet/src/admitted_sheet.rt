@@ -6,11 +6,11 @@ ghost use Rattle.sheet.specs.Header.{header_of, vocabulary_of};
 ghost use Rattle.sheet.specs.Admitted.{Accepted, Admits};
 
 use crate::header::Sheet;
-use crate::parts::HeadedSheet;
+use crate::parts::{HeadedSheet, vocabulary};
 use crate::{answer, check};
 use definitions::Refusal;
 use std::marker::Model;
-use vocabulary::Vocabulary;
+use vocabulary::{Memory, Vocabulary};
 
 // The bytes with their header. What hands out a part also tells what the refusals have shown of the bytes.
 #[derive(Drop)]
@@ -74,7 +74,16 @@ impl<'a> AdmittedSheet<'a> {
         ensures is { result ≡ vocabulary_of (header_of self.now) }
         ensures accepted { Accepted self.now }
     {
-        self.sheet.vocabulary()
+        vocabulary(self.sheet.header)
+    }
+
+    // Its names and its code.
+    pub fn memory(&self) -> Memory<'a>
+        ensures bytes { result.bytes.now ≡ self.now }
+        ensures vocabulary { result.vocabulary ≡ vocabulary_of (header_of self.now) }
+        ensures accepted { Accepted self.now }
+    {
+        self.sheet.memory()
     }
 
     // The pairs of its names.

@@ -1,10 +1,10 @@
 // Where the names and the code of a sheet lie, and its parts, as slices of its bytes.
-ghost use Rattle.std.specs.Prelude.{◌≡◌};
+ghost use Rattle.std.specs.Prelude.{◌≡◌, ◌<◌, ℕ, get_or};
 ghost use Rattle.definitions.specs.Sheet.{name_pairs, proposition_pairs, step_records, text_bytes, code_bytes};
 ghost use Rattle.sheet.specs.Header.{InRange, HasHeader, vocabulary_of};
 
 use crate::header::Sheet;
-use vocabulary::{Vocabulary, code_of, pairs_of, text_of};
+use vocabulary::{Memory, Vocabulary};
 
 // Where the names and the code of a sheet with this header lie.
 #[tactic(auto, unfolding(crate::specs::Header::vocabulary_of, definitions::specs::Sheet::header_size))]
@@ -29,14 +29,20 @@ pub struct HeadedSheet<'a> {
     pub bytes: &'a [u8],
     pub header: Sheet,
     pub ghost headed: { HasHeader bytes.now header },
+    // A proof knows this of a parameter, and of a field where the struct says it.
+    pub ghost fits: { (i : ℕ) → get_or bytes.now i 0 < 256 },
 }
 
 impl<'a> HeadedSheet<'a> {
-    // Where its names and its code lie.
-    pub fn vocabulary(&self) -> Vocabulary
-        ensures { result ≡ vocabulary_of self.now.header }
+    // Its names and its code.
+    pub fn memory(&self) -> Memory<'a>
+        ensures bytes { result.bytes.now ≡ self.now.bytes.now }
+        ensures vocabulary { result.vocabulary ≡ vocabulary_of self.now.header }
     {
-        vocabulary(self.header)
+        Memory {
+            bytes: self.bytes,
+            vocabulary: vocabulary(self.header),
+        }
     }
 
     // The pairs of its names.
@@ -44,7 +50,7 @@ impl<'a> HeadedSheet<'a> {
     pub fn name_pairs(&self) -> &'a [u8]
         ensures { result.now ≡ name_pairs self.now.bytes.now }
     {
-        pairs_of(self.bytes, self.vocabulary())
+        self.memory().pairs()
     }
 
     // The pairs of its propositions.
@@ -70,7 +76,7 @@ impl<'a> HeadedSheet<'a> {
     pub fn text_bytes(&self) -> &'a [u8]
         ensures { result.now ≡ text_bytes self.now.bytes.now }
     {
-        text_of(self.bytes, self.vocabulary())
+        self.memory().text()
     }
 
     // The code of its propositions.
@@ -78,6 +84,6 @@ impl<'a> HeadedSheet<'a> {
     pub fn code_bytes(&self) -> &'a [u8]
         ensures { result.now ≡ code_bytes self.now.bytes.now }
     {
-        code_of(self.bytes, self.vocabulary())
+        self.memory().code()
     }
 }

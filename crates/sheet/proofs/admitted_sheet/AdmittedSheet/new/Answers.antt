@@ -10,8 +10,11 @@ pub returns-in_err-header : goal.returns-in_err-header
 returns-in_err-header c =
     let is : c.from_residual.result ≡ Err c.in_err-header.field-0.0 = search rules in rw is (refused_sheet _ (sym c.in_err-header.ensures))
 
-pub invariant_of-sheet : goal.invariant_of-sheet
-invariant_of-sheet c = record { headed = its_header (accepted_sheet _ (sym c.in_ok-header.ensures)) }
+pub invariant_of-sheet-clause-headed : goal.invariant_of-sheet-clause-headed
+invariant_of-sheet-clause-headed c = its_header (accepted_sheet _ (sym c.in_ok-header.ensures))
+
+pub invariant_of-sheet-clause-fits : goal.invariant_of-sheet-clause-fits
+invariant_of-sheet-clause-fits c = λ i. omega (arith, c.type_inv.bytes i)
 
 pub invariant_of-result : goal.invariant_of-result
 invariant_of-result c = without_header (λ i. omega (arith, c.type_inv.bytes i)) (accepted_sheet _ (sym c.in_ok-header.ensures))
