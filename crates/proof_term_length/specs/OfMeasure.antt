@@ -1,9 +1,22 @@
--- What is said of record n by what a term's text is measured by.
+-- What is said of the propositions of a memory, and of record n by what a term's text is measured by.
 use Rattle.std.specs.Prelude.{ℕ, ◌+◌, ◌*◌, ◌≤◌, ◌<◌, List, length}
+use Rattle.definitions.specs.declared.Style.{Style}
 use Rattle.proof_term.specs.Records.{record_size}
+use Rattle.prop.specs.declared.propositions.Propositions.{Propositions}
 use Rattle.proof_term_display.specs.declared.TermPart.{TermPart}
 use Rattle.proof_term_length.specs.declared.Measure.{Measure}
-use Rattle.proof_term_length.specs.Measure.{name_size, part_size, term_length, own_label_length, MeasuredBelow, AllNamed, Measurable}
+use Rattle.proof_term_length.specs.Measure.{name_size, part_size, term_length, own_label_length, MeasuredBelow, AllNamed, Measurable, Known}
+
+module _ (p : Propositions) where
+  -- record n can be measured, the table has lengths of texts, and the length of the term's text
+  abbrev pub TermMeasurable : List ℕ → ℕ → Type 0
+  TermMeasurable records n = Measurable records n p.memory.bytes.now p.memory.vocabulary p.ends.now
+
+  abbrev pub KnownLengths : List ℕ → Type 0
+  KnownLengths = Known p.memory.bytes.now p.memory.vocabulary
+
+  abbrev pub length_of_term : List ℕ → Style → ℕ → ℕ
+  length_of_term = term_length p.memory.bytes.now p.memory.vocabulary
 
 module _ (m : Measure) where
   -- the memory holds record n, and the tables have room for it
@@ -12,23 +25,23 @@ module _ (m : Measure) where
 
   -- each name is there; the records below n are measured; record n can be
   abbrev pub HasNames : Type 0
-  HasNames = AllNamed m.bytes.now m.v
+  HasNames = AllNamed m.propositions.memory.bytes.now m.propositions.memory.vocabulary
 
   abbrev pub LengthsBelow : List ℕ → ℕ → Type 0
-  LengthsBelow = MeasuredBelow m.bytes.now m.v m.records.now m.style m.cap
+  LengthsBelow = MeasuredBelow m.propositions.memory.bytes.now m.propositions.memory.vocabulary m.records.now m.style m.cap
 
   abbrev pub CanMeasure : ℕ → Type 0
-  CanMeasure n = Measurable m.records.now n m.bytes.now m.v m.ends.now
+  CanMeasure = TermMeasurable m.propositions m.records.now
 
   -- the length of the name in a number of record n, of a part, of its label, and of its text
   abbrev pub size_of_name : ℕ → ℕ → ℕ
-  size_of_name = name_size m.bytes.now m.v m.records.now
+  size_of_name = name_size m.propositions.memory.bytes.now m.propositions.memory.vocabulary m.records.now
 
   abbrev pub size_of_part : ℕ → TermPart → ℕ
-  size_of_part n = part_size m.bytes.now m.v m.records.now n m.style
+  size_of_part n = part_size m.propositions.memory.bytes.now m.propositions.memory.vocabulary m.records.now n m.style
 
   abbrev pub label_size : ℕ → ℕ
-  label_size = own_label_length m.bytes.now m.v m.records.now
+  label_size = own_label_length m.propositions.memory.bytes.now m.propositions.memory.vocabulary m.records.now
 
   abbrev pub text_size : ℕ → ℕ
-  text_size = term_length m.bytes.now m.v m.records.now m.style
+  text_size = length_of_term m.propositions m.records.now m.style

@@ -3,10 +3,10 @@
 
 ghost use Rattle.std.specs.Prelude.{◌≡◌, List, ℕ, ◌+◌, ◌*◌, ◌≤◌, ◌<◌, min, length, get_or};
 ghost use Rattle.proof_term.specs.Records.{record_size};
-ghost use Rattle.prop.specs.Printing.{prop_text, Printable};
+ghost use Rattle.prop.specs.Propositions.{text_at, HasProposition};
 ghost use Rattle.prop_length.specs.Length.{TextLength};
-ghost use Rattle.proof_term_length.specs.Measure.{seen, make_row, row_of, total, term_length, Agrees, Measurable, Known};
-ghost use Rattle.proof_term_length.specs.OfMeasure.{Held, HasNames, LengthsBelow, CanMeasure, size_of_name, size_of_part, label_size, text_size};
+ghost use Rattle.proof_term_length.specs.Measure.{seen, make_row, row_of, total, Agrees};
+ghost use Rattle.proof_term_length.specs.OfMeasure.{TermMeasurable, KnownLengths, length_of_term, Held, HasNames, LengthsBelow, CanMeasure, size_of_name, size_of_part, label_size, text_size};
 
 use TermPart::{
     Argument, AscribedBody, First, Function, NamedBody, PairFirst, PairSecond, Second, Third,
@@ -14,8 +14,8 @@ use TermPart::{
 use definitions::Style;
 use proof_term::{Kind, Label, field, kind_at, node_at};
 use proof_term_display::{TermPart, is_bracketed};
+use prop::Propositions;
 use prop_length::{name_length, text_length};
-use vocabulary::Vocabulary;
 
 // Half as many as a sheet's code has bytes. The memory is fixed, since a library has no heap.
 const KNOWN_LIMIT: usize = prefix_code::CODE_LIMIT / 2;
@@ -89,21 +89,13 @@ fn total<T: Copy + Drop, F: Fn(T) -> usize>(items: &[T], cap: usize, length_of: 
 }
 
 // The length of the text of the proposition at `at`, which is found out once, unless a label 4,096 bytes away takes turns with it.
-// Memory, vocabulary and ends come in loose, as in `prop_length::text_length`: by the bounds of what the slices hold, which are known of a
-// parameter, twice a length fits an entry.
 // An entry is twice a length, and one more for an offset in the upper half of the code. A struct of both takes eight bytes with its padding,
 // and the table of these, which the compiler lays down in the frame of `text::measure_term`, 32,768 bytes in the place of 16,384.
-fn known_length(
-    bytes: &[u8],
-    v: Vocabulary,
-    ends: &[u16],
-    at: usize,
-    known: &mut [u32; KNOWN_LIMIT],
-) -> usize
-    requires printable { Printable bytes.now v ends.now at × (at < 8192) }
-    requires known { Known bytes.now v known.old }
-    ensures { TextLength (prop_text bytes.now v at) result
-        × Known bytes.now v known.new }
+fn known_length(propositions: &Propositions, at: usize, known: &mut [u32; KNOWN_LIMIT]) -> usize
+    requires printable { HasProposition propositions.now at × (at < 8192) }
+    requires known { KnownLengths propositions.now known.old }
+    ensures { TextLength (text_at propositions.now at) result
+        × KnownLengths propositions.now known.new }
 {
     let slot = at % KNOWN_LIMIT;
     let upper = at / KNOWN_LIMIT;
@@ -111,7 +103,7 @@ fn known_length(
     if before != 0 && before % 2 == upper as u32 {
         return (before / 2) as usize;
     }
-    let length = text_length(bytes, v, ends, at);
+    let length = text_length(propositions, at);
     known[slot] = (2 * length + upper) as u32;
     length
 }
@@ -120,9 +112,7 @@ fn known_length(
 #[derive(Clone, Copy)]
 struct Measure<'a> {
     records: &'a [u16],
-    bytes: &'a [u8],
-    v: Vocabulary,
-    ends: &'a [u16],
+    propositions: Propositions<'a>,
     style: Style,
     cap: usize,
 }
@@ -135,10 +125,11 @@ impl Measure<'_> {
         ensures { result ≡ size_of_name self.now n number }
     {
         let name = field(self.records, n, number);
-        if self.v.name_count <= name {
+        let memory = self.propositions.memory;
+        if memory.vocabulary.name_count <= name {
             return 0;
         }
-        name_length(self.bytes, self.v, name)
+        name_length(&memory, name)
     }
 
     // The length of a part of record `n`, in brackets where its position asks for them, by the lengths of the records before.
@@ -174,17 +165,16 @@ impl Measure<'_> {
     // What record `n`'s label adds, if it has one: a colon, a blank and the label.
     fn label_length(&self, n: usize, known: &mut [u32; KNOWN_LIMIT]) -> usize
         requires measurable { CanMeasure self.now n }
-        requires known { Known self.now.bytes.now self.now.v known.old }
-        ensures { (result ≡ label_size self.now n)
-            × Known self.now.bytes.now self.now.v known.new }
+        requires known { KnownLengths self.now.propositions known.old }
+        ensures { (result ≡ label_size self.now n) × KnownLengths self.now.propositions known.new }
     {
         match node_at(self.records, n).label() {
             None => 0,
             Some(Label::Datatype(name)) => {
-                COLON + name_length(self.bytes, self.v, usize::from(name))
+                COLON + name_length(&self.propositions.memory, usize::from(name))
             }
             Some(Label::Proposition(at)) => {
-                COLON + known_length(self.bytes, self.v, self.ends, usize::from(at), known)
+                COLON + known_length(&self.propositions, usize::from(at), known)
             }
         }
     }
@@ -194,20 +184,16 @@ impl Measure<'_> {
 pub fn term_length(
     records: &[u16],
     n: usize,
-    bytes: &[u8],
-    v: Vocabulary,
-    ends: &[u16],
+    propositions: Propositions,
     style: Style,
     cap: usize,
 ) -> usize
-    requires { Measurable records.now n bytes.now v ends.now }
-    ensures { result ≡ min (term_length bytes.now v records.now style n) cap }
+    requires { TermMeasurable propositions records.now n }
+    ensures { result ≡ min (length_of_term propositions.entry records.now style n) cap }
 {
     let measure = Measure {
         records,
-        bytes,
-        v,
-        ends,
+        propositions,
         style,
         cap,
     };

@@ -24,4 +24,4 @@ returns c =
     is) in
     let all = agree_sum (agree_exactly refl) (agree_sum names parts c.sum-rest.ensures) c.sum.ensures in
     let kind = kind_seen m.records.now n c.kind_at.ensures in
-    rw (term_counted m.bytes.now m.v m.records.now n m.style _ kind, ← c.row_of-row.ensures) (agree_more _ all)
+    rw (term_counted m.propositions.memory.bytes.now m.propositions.memory.vocabulary m.records.now n m.style _ kind, ← c.row_of-row.ensures) (agree_more _ all)

@@ -8,8 +8,9 @@ use Rattle.proof_term.specs.Records.{field_at}
 use Rattle.proof_term.specs.Labels.{LabelFits}
 use Rattle.proof_term.specs.declared.nodes.Label.{Label}
 use Rattle.proof_term.proofs.Views.{LabelRead, label_read, datatype_read, proposition_read}
-use Rattle.vocabulary.specs.Vocabulary.{name_in, prop_in}
-use Rattle.prop.specs.Printing.{prop_text, KnownIn}
+use Rattle.vocabulary.specs.Memory.{name_of, prop_of}
+use Rattle.prop.specs.Printing.{KnownIn}
+use Rattle.prop.specs.Propositions.{text_at}
 use Rattle.prop.proofs.Shown.{below_as}
 use Rattle.proof_term_display.proofs.Labels.{datatype_text, proposition_text}
 use Rattle.proof_term_length.proofs.Counting.{label_there, label_absent}
@@ -22,7 +23,7 @@ read c is = label_read (rw c.node_at.ensures at (sym c.label.ensures ∙ is))
 
 -- where it has one, that fits
 fits : (c : After-label) {l : Label} → c.label.result ≡ Some l → let s = c.args in
-    LabelFits s.self.now.v.name_count (KnownIn s.self.now.bytes.now s.self.now.v s.self.now.ends.now) (field_at s.self.now.records.now s.n 3) (field_at s.self.now.records.now s.n 4)
+    LabelFits s.self.now.propositions.memory.vocabulary.name_count (KnownIn s.self.now.propositions.memory.bytes.now s.self.now.propositions.memory.vocabulary s.self.now.propositions.ends.now) (field_at s.self.now.records.now s.n 3) (field_at s.self.now.records.now s.n 4)
 fits c is = c.requires.measurable.labels c.args.n (omega arith) (read c is).labelled
 
 pub returns-in-None : goal.returns-in-None
@@ -38,8 +39,8 @@ name_length-requires c =
 pub returns-in-Some-Datatype : goal.returns-in-Some-Datatype
 returns-in-Some-Datatype c =
     let its = read (goal.at.returns-in-Some-Datatype c).After-label (c.in-Some-Datatype.is ∙ ap Some c.in-Some-Datatype.field-0-is) in
-    let names = name_in c.args.self.now.bytes.now c.args.self.now.v in
-    let text = datatype_text names (prop_in c.args.self.now.bytes.now c.args.self.now.v) _ _ its.is in
+    let names = name_of c.args.self.now.propositions.memory in
+    let text = datatype_text names (prop_of c.args.self.now.propositions.memory) _ _ its.is in
     (label_there _ _ _ _ its (c.name_length.ensures.is ∙ ap length (ap names c.from.ensures ∙ text)), c.requires.known)
 
 pub known_length-requires-clause-printable : goal.known_length-requires-clause-printable
@@ -57,6 +58,6 @@ known_length-requires-clause-printable c =
 pub returns-in-Some-Proposition : goal.returns-in-Some-Proposition
 returns-in-Some-Proposition c =
     let its = read (goal.at.returns-in-Some-Proposition c).After-label (c.in-Some-Proposition.is ∙ ap Some c.in-Some-Proposition.field-0-is) in
-    let text = proposition_text (name_in c.args.self.now.bytes.now c.args.self.now.v) (prop_in c.args.self.now.bytes.now c.args.self.now.v) _ _ its.is in
-    let measured = c.known_length.ensures.0.is ∙ (ap (λ k. length (prop_text c.args.self.now.bytes.now c.args.self.now.v k)) c.from-in-Some-Proposition.ensures ∙ ap length text) in
+    let text = proposition_text (name_of c.args.self.now.propositions.memory) (prop_of c.args.self.now.propositions.memory) _ _ its.is in
+    let measured = c.known_length.ensures.0.is ∙ (ap (λ k. length (text_at c.args.self.now.propositions k)) c.from-in-Some-Proposition.ensures ∙ ap length text) in
     (label_there _ _ _ _ its measured, c.known_length.ensures.1)

@@ -1,7 +1,7 @@
 -- The number is that of a name, or stands for no byte.
 use mathlib.Core.Path.{◌≡◌, sym, ap, ◌∙◌}
 use lib.ListN.{length}
-use Rattle.vocabulary.specs.Vocabulary.{name_in}
+use Rattle.vocabulary.specs.Memory.{name_of}
 use Rattle.proof_term_length.specs.Measure.{name_size}
 use Rattle.proof_term_length.proofs.Counting.{no_name}
 use Rattle.proof_term_length.proofs.Measure.name_in.Goals as goal
@@ -9,13 +9,13 @@ use Rattle.proof_term_length.proofs.Measure.name_in.Goals.{After-field-name}
 
 -- the size is that of the name of the number that was read
 size_is : (c : After-field-name) → let s = c.args in
-    name_size s.self.now.bytes.now s.self.now.v s.self.now.records.now s.n s.number ≡ length (name_in s.self.now.bytes.now s.self.now.v c.field-name.result)
-size_is c = let s = c.args in ap (λ k. length (name_in s.self.now.bytes.now s.self.now.v k)) (sym c.field-name.ensures.0)
+    name_size s.self.now.propositions.memory.bytes.now s.self.now.propositions.memory.vocabulary s.self.now.records.now s.n s.number ≡ length (name_of s.self.now.propositions.memory c.field-name.result)
+size_is c = let s = c.args in ap (λ k. length (name_of s.self.now.propositions.memory k)) (sym c.field-name.ensures.0)
 
-pub returns-then-self-name : goal.returns-then-self-name
-returns-then-self-name c =
+pub returns-then-memory-name : goal.returns-then-memory-name
+returns-then-memory-name c =
     let s = c.args in
-    sym (size_is (goal.at.returns-then-self-name c).After-field-name ∙ no_name s.self.now.bytes.now s.self.now.v _ c.if-self-name.true)
+    sym (size_is (goal.at.returns-then-memory-name c).After-field-name ∙ no_name s.self.now.propositions.memory.bytes.now s.self.now.propositions.memory.vocabulary _ c.if-memory-name.true)
 
 pub returns : goal.returns
 returns c = c.name_length.ensures.is ∙ sym (size_is (goal.at.returns c).After-field-name)

@@ -21,7 +21,7 @@ returns-then-is_bracketed c =
     let s = c.args in
     let m = s.self.now in
     let bracketed = at_position _ _ _ _ c.position.ensures (c.is_bracketed.ensures _ _) in
-    let size = bracketed_size m.bytes.now m.v m.records.now s.n m.style _ _ (number_is (goal.at.returns-then-is_bracketed c).After-field-number) c.if-n-number.false bracketed c.if-is_bracketed.true in
+    let size = bracketed_size m.propositions.memory.bytes.now m.propositions.memory.vocabulary m.records.now s.n m.style _ _ (number_is (goal.at.returns-then-is_bracketed c).After-field-number) c.if-n-number.false bracketed c.if-is_bracketed.true in
     rw size (agree_sum (agree_exactly refl) (agree_as_far (c.requires.measured_below _ c.if-n-number.false)) c.sum.ensures)
 
 pub returns : goal.returns
@@ -29,5 +29,5 @@ returns c =
     let s = c.args in
     let m = s.self.now in
     let bracketed = at_position _ _ _ _ c.position.ensures (c.is_bracketed.ensures _ _) in
-    let size = bare_size m.bytes.now m.v m.records.now s.n m.style _ _ (number_is (goal.at.returns c).After-field-number) c.if-n-number.false bracketed c.if-is_bracketed.false in
+    let size = bare_size m.propositions.memory.bytes.now m.propositions.memory.vocabulary m.records.now s.n m.style _ _ (number_is (goal.at.returns c).After-field-number) c.if-n-number.false bracketed c.if-is_bracketed.false in
     rw size (agree_as_far (c.requires.measured_below _ c.if-n-number.false))
