@@ -3,11 +3,11 @@ use Prim.Native.Nat.{ℕ, zero, suc, ◌+◌, ◌≤◌, ◌<◌}
 use mathlib.Core.Path.{◌≡◌, refl, sym, ap, ◌∙◌}
 use mathlib.Core.Logic.{by_cases}
 use mathlib.Core.Bool.{Bool, true, false, ◌&&◌}
-use mathlib.Core.List.{List, map}
+use mathlib.Core.List.{List}
 use native.Mathlib.Omega.{arith}
 use native.Mathlib.Decide.{dec_lt}
 use native.Mathlib.Numerals.{add-one}
-use lib.ListN.{get_or, get_or-map}
+use lib.ListN.{get_or}
 use Rattle.definitions.specs.Prop.{Prop}
 use Rattle.definitions.specs.Term.{ProofTerm, Unit}
 use Rattle.definitions.specs.CheckAnswers.{is_checkable_label, is_checkable_parameter_label, is_checkable}
@@ -20,7 +20,7 @@ use Rattle.proof_term.specs.declared.nodes.Label.TheVariants.{Proposition, Datat
 use Rattle.proof_term.specs.declared.nodes.Node.{Node}
 use Rattle.proof_term.specs.declared.nodes.Node.TheVariants as variant
 use Rattle.proof_term.proofs.Views.{node_is, other_number}
-use Rattle.proof_term.proofs.Records.{arity, part_count_lem, term_at_is, part_below, part_else}
+use Rattle.proof_term.proofs.Records.{same_at, arity, part_count_lem, term_at_is, part_below, part_else}
 use Rattle.checkable.specs.Terms.{own_checkable, LabelsPresent}
 
 -- the first so many tests
@@ -46,9 +46,6 @@ and_true false = refl
 and_assoc : (a b c : Bool) → (a && b) && c ≡ a && (b && c)
 and_assoc true b c = refl
 and_assoc false b c = refl
-
-same_at : {A : Type 0} (m w : A → Bool) (l : List A) (d : A) → m d ≡ w d → map m l ≡ map w l → (i : ℕ) → m (get_or l i d) ≡ w (get_or l i d)
-same_at m w l d p q i = cc (get_or-map m l i d, get_or-map w l i d)
 
 -- over parts that are checkable a node is checkable by itself
 own_is : (props : ℕ → Prop ℕ) (node : Node) → is_checkable (node_term props (λ i. Unit) node) ≡ own_checkable props node

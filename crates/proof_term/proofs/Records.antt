@@ -3,7 +3,7 @@ use Prim.Native.Nat.{ℕ, zero, suc, ◌+◌, ◌*◌, ◌≤◌, ◌<◌}
 use mathlib.Core.Path.{◌≡◌, refl, sym, ap, ◌∙◌, fun_ext}
 use mathlib.Core.Logic.{by_cases}
 use Rattle.std.specs.Prelude.{None}
-use mathlib.Core.List.{List, [], ◌∷◌}
+use mathlib.Core.List.{List, [], ◌∷◌, map}
 use native.Mathlib.Omega.{arith}
 use native.Mathlib.Decide.{dec_lt}
 use lib.ListN.{get_or, take, get_or-map}
@@ -12,6 +12,10 @@ use borrow.Author.Tests.{lt-ltb, le-ltb}
 use Rattle.definitions.specs.Prop.{Prop, True}
 use Rattle.definitions.specs.Term.{ProofTerm, Ident, Function, OrLeft, Unit}
 use Rattle.proof_term.specs.Records.{record_size, field_at, Form, leaf, unary, binary, ternary, form_term, parameter_label, forms, record_term, record_term_at, part_count, Each, earlier, term_within, term_at, part_at}
+
+-- two measures that agree on each entry of a table agree on what stands at any index
+pub same_at : {A B : Type 0} (m w : A → B) (l : List A) (d : A) → m d ≡ w d → map m l ≡ map w l → (i : ℕ) → m (get_or l i d) ≡ w (get_or l i d)
+same_at m w l d p q i = cc (get_or-map m l i d, get_or-map w l i d)
 
 abbrev pub arity : Form → ℕ
 arity (leaf t) = 0

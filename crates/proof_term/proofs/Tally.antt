@@ -8,14 +8,14 @@ use native.Mathlib.Omega.{arith}
 use native.Mathlib.Decide.{dec_le}
 use native.Mathlib.Nat.{zero-add, add-zero}
 use native.Mathlib.Numerals.{add-one}
-use lib.ListN.{length, get_or, get_or-map, take}
+use lib.ListN.{length, get_or, take}
 use lib.Seq.{length-take-le, get_or-take}
 use Rattle.definitions.specs.Prop.{Prop}
 use Rattle.definitions.specs.Term.{ProofTerm, Unit, annotation_count}
 use Rattle.proof_term.specs.Records.{field_at, leaf, form_term, label_of, forms, record_term, record_term_at, part_count, Each, term_at, part_at}
 use Rattle.proof_term.specs.Labels.{has_label, of_own_label, single, InOrder}
 use Rattle.proof_term.specs.Tally.{tally_limit, tally_at, own_count, sum_of, sum_over, tally_over, Tallied, Node, root, part_of, NodesTallied}
-use Rattle.proof_term.proofs.Records.{arity, part_count_lem, few_parts, term_at_is, part_below}
+use Rattle.proof_term.proofs.Records.{same_at, arity, part_count_lem, few_parts, term_at_is, part_below}
 use Rattle.proof_term.proofs.Labels.{own_labels_lem}
 use Rattle.proof_term.proofs.Counting.{count_labels, few_labels, count_in_order}
 
@@ -83,10 +83,6 @@ sum_over_first own count numbers value few =
     rw (length-take-le count numbers few)
     (ap (λ n. min (own + n) tally_limit) (sum_same count (λ i. value (get_or (take count numbers) i 0)) (λ i. value (get_or numbers i 0)) (λ i l. ap value (get_or-take count numbers i 0 l))))
 
--- two measures that agree on each entry of a table agree on what stands at any index
-same_at : {A : Type 0} (m w : A → ℕ) (l : List A) (d : A) → m d ≡ w d → map m l ≡ map w l → (i : ℕ) → m (get_or l i d) ≡ w (get_or l i d)
-same_at m w l d p q i = cc (get_or-map m l i d, get_or-map w l i d)
-
 -- A record's term by its kind and the numbers behind it.
 module _ (props : ℕ → Prop ℕ) (kind : ℕ) (numbers : List ℕ) where
   abbrev nth : ℕ → ℕ
@@ -151,7 +147,8 @@ module _ (props : ℕ → Prop ℕ) (records : List ℕ) where
   node_few root = omega arith
   node_few (part_of {m} {i} node h l) = omega (arith, node_few node, part_few m i h l)
 
-node_before : {records : List ℕ} {n m : ℕ} → Node records n m → m ≤ n
+-- a node of a term has no later record than the term
+pub node_before : {records : List ℕ} {n m : ℕ} → Node records n m → m ≤ n
 node_before root = omega arith
 node_before (part_of node h l) = omega (arith, node_before node)
 

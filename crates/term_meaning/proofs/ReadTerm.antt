@@ -18,10 +18,10 @@ use Rattle.reading_laws.proofs.TermAnswer.{answer_is, clash}
 use Rattle.prefix_code.specs.PropAt.{Present}
 use Rattle.proof_term.specs.Records.{record_size}
 use Rattle.proof_term.specs.Labels.{of_records, InOrder, LabelsFit}
-use Rattle.proof_term.specs.Tally.{Node, part_of, NodesTallied}
-use Rattle.proof_term.specs.Tally as tally
+use Rattle.proof_term.specs.Tally.{NodesTallied}
 use Rattle.proof_term.specs.Readable.{NamesBelow}
 use Rattle.proof_term.proofs.Fitting.{datatype_below}
+use Rattle.proof_term.proofs.Tally.{node_before}
 use Rattle.term_meaning.specs.Offsets.{BeginsAt}
 use Rattle.term_meaning.specs.Memory.{Memory, name_in, label_offset, prop_in, term_in, meant_term, Stored, Numbered, MarksAll, ReadTerm}
 use Rattle.term_meaning.proofs.Offsets.{begins_in, begins_even}
@@ -43,11 +43,6 @@ module _ (types : List Name) (text : List ℕ) where
 
   pub text_again : (t : ProofTerm Name) → read_answer types text ≡ accepted t → display_term Strict t ≡ text
   text_again t e = (read_term_lem t e).shown
-
--- a node of a term has no later record than the term
-node_before : {records : List ℕ} {n k : ℕ} → Node records n k → k ≤ n
-node_before tally.root = omega arith
-node_before (part_of node h l) = omega (arith, node_before node)
 
 -- at a proposition label's number a proposition stands
 abbrev Standing : Memory → ℕ → Type 0

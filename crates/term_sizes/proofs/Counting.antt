@@ -2,11 +2,11 @@
 use Prim.Native.Nat.{ℕ, zero, suc, ◌+◌, ◌≤◌, ◌<◌}
 use mathlib.Core.Path.{◌≡◌, refl}
 use mathlib.Core.Logic.{by_cases}
-use mathlib.Core.List.{List, map}
+use mathlib.Core.List.{List}
 use native.Mathlib.Omega.{arith}
 use native.Mathlib.Decide.{dec_lt}
 use native.Mathlib.Nat.{zero-add, add_assoc}
-use lib.ListN.{length, get_or, get_or-map}
+use lib.ListN.{length, get_or}
 use borrow.Author.Tests.{lt-ltb, le-ltb}
 use Rattle.definitions.specs.Prop.{Prop}
 use Rattle.definitions.specs.Term.{ProofTerm, Unit}
@@ -16,10 +16,7 @@ use Rattle.proof_term.specs.Views.{PartsOf}
 use Rattle.proof_term.specs.Records.{field_at, leaf, form_term, forms, record_term_at, part_count, term_at, part_at}
 use Rattle.term_sizes.specs.Sizes.{most, CountedTo, Sized, part_size}
 use Rattle.term_sizes.proofs.Filling.{counted_so, add_counted, cut_counted}
-use Rattle.proof_term.proofs.Records.{arity, part_count_lem, term_at_is, part_below, part_else}
-
-same_at : {A : Type 0} (m w : A → ℕ) (l : List A) (d : A) → m d ≡ w d → map m l ≡ map w l → (i : ℕ) → m (get_or l i d) ≡ w (get_or l i d)
-same_at m w l d p q i = cc (get_or-map m l i d, get_or-map w l i d)
+use Rattle.proof_term.proofs.Records.{same_at, arity, part_count_lem, term_at_is, part_below, part_else}
 
 size_is : (props : ℕ → Prop ℕ) (number : ℕ → ℕ) (d e : ℕ) (part : ℕ → ProofTerm ℕ) (kind : ℕ) →
     nodes (form_term part (get_or (forms props (number 1) (number 2) (number 3) d e) kind (leaf Unit)) (number 1) (number 2) (number 3))
