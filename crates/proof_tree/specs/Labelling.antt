@@ -14,7 +14,9 @@ use Rattle.steps.specs.declared.Conclusion.TheVariants.{PropIsTrue, TypeJudgemen
 use Rattle.proof_term.specs.declared.nodes.Label as own
 use Rattle.proof_term.specs.declared.nodes.Label.TheVariants.{Proposition}
 use Rattle.prefix_code.specs.PropAt.{prop_at, Present}
-use Rattle.prefix_code.specs.Shape.{ImplicationAt}
+use Rattle.prefix_code.specs.Shape.{ShapeOf, ImplicationAt}
+use Rattle.prefix_code.specs.declared.Shape.{Shape}
+use Rattle.proof_tree.specs.Opening.{offset_of}
 
 -- in checking mode no term is labelled
 unfoldable pub ending_at : Place → Ending → Ending
@@ -40,6 +42,17 @@ pub data Means (names : ℕ) (pairs code : List ℕ) : Conclusion → ProofTreeC
   stands : {p : ℕ} → Present names code (pair_offset pairs p)
       → Means names pairs code (PropIsTrue p) (tree.PropIsTrue (prop_at names code (pair_offset pairs p)))
   judges : {j : Judgement} {x : Identifier ℕ} {t : ℕ} → Means names pairs code (TypeJudgement j) (tree.TypeJudgement x t)
+
+-- a conclusion that was opened: the proposition that it states, and the shape that stands at its offset
+pub record Opened (pairs code : List ℕ) (c : Conclusion) (s : Shape) : Type 0 where
+  pub proposition : ℕ
+  pub concludes : c ≡ PropIsTrue proposition
+  pub shape : (names : ℕ) → Present names code (pair_offset pairs proposition) → ShapeOf names code (pair_offset pairs proposition) s
+
+-- the shape of a conclusion's proposition, and none where it is a type judgement
+pub data ShapeFound (pairs code : List ℕ) (c : Conclusion) : Option Shape → Type 0 where
+  judged : offset_of pairs c ≡ None → ShapeFound pairs code c None
+  opened : {s : Shape} → Opened pairs code c s → ShapeFound pairs code c (Some s)
 
 -- the offset of an implication's left side
 pub record LeftSide (pairs code : List ℕ) (conclusion : Conclusion) (number : ℕ) : Type 0 where

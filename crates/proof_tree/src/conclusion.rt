@@ -4,7 +4,7 @@ ghost use Rattle.definitions.specs.Reason.{number_of};
 ghost use Rattle.proof_tree.specs.Table.{ending_of};
 ghost use Rattle.proof_tree.specs.Opening.{offset_of};
 ghost use Rattle.proof_tree.specs.Exportable.{Stated};
-ghost use Rattle.proof_tree.specs.Labelling.{left_label_of, datatype_label_of, parameter_label_of, label_or, AnnotationOf};
+ghost use Rattle.proof_tree.specs.Labelling.{left_label_of, datatype_label_of, parameter_label_of, label_or, ShapeFound, AnnotationOf};
 
 use crate::table::Ending;
 use definitions::{Reason, Refusal};
@@ -45,15 +45,24 @@ impl StatedConclusion<'_> {
         Some(pair_offset(self.pairs, p as usize))
     }
 
+    // The shape of its proposition, if it has one.
+    fn shape(&self) -> Option<Shape>
+        ensures { ShapeFound self.now.pairs.now self.now.code.now self.now.conclusion result }
+    {
+        let at = self.proposition_at()?;
+        Some(shape_at(self.code, at))
+    }
+
     // Its left side, if it is an implication.
     fn left_label(&self) -> Option<Label>
         ensures { (k : ℕ) → AnnotationOf (left_label_of k) self.now.pairs.now self.now.code.now self.now.conclusion (label_or 14 k result) }
     {
-        let at = self.proposition_at()?;
-        let Shape::Binary {
-            connective: Connective::Impl,
-            left,
-        } = shape_at(self.code, at)
+        let Some(
+            Shape::Binary {
+                connective: Connective::Impl,
+                left,
+            },
+        ) = self.shape()
         else {
             return None;
         };
@@ -64,12 +73,13 @@ impl StatedConclusion<'_> {
     fn datatype_label(&self) -> Option<Label>
         ensures { (k : ℕ) → AnnotationOf (datatype_label_of k) self.now.pairs.now self.now.code.now self.now.conclusion (label_or 15 k result) }
     {
-        let at = self.proposition_at()?;
-        let Shape::Quantified {
-            quantifier: Quantifier::ForAll,
-            datatype,
-            ..
-        } = shape_at(self.code, at)
+        let Some(
+            Shape::Quantified {
+                quantifier: Quantifier::ForAll,
+                datatype,
+                ..
+            },
+        ) = self.shape()
         else {
             return None;
         };
