@@ -15,7 +15,7 @@ use Rattle.prop_numbers.specs.Standing.{Rep, stops}
 use Rattle.checker.specs.Judging.{Checks, ChecksAs, Decides, InfersAs, Means, Shows, node, proposition, yes}
 
 -- other names leave the nodes as they are
-pub nodes_same : (f : ℕ → Name) (t : ProofTerm ℕ) → nodes (rename_term f t) ≡ nodes t
+pub nodes_same : {N M : Type 0} (f : N → M) (t : ProofTerm N) → nodes (rename_term f t) ≡ nodes t
 unfolding nodes rename_term
 nodes_same f (Ident x) = refl
 nodes_same f (Pair a b) = rw (nodes_same f a, nodes_same f b)

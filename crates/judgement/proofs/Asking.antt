@@ -45,7 +45,8 @@ use Rattle.hypotheses.proofs.Entering.{Assumed, scope_assumed}
 use Rattle.sheet_term.specs.Held.{HeldTerm}
 use Rattle.sheet_term.proofs.Held.{label_present}
 use Rattle.judgement.specs.Asked.{held_term, ruled, LowestNumbers}
-use Rattle.judgement.proofs.Renaming.{nodes_same, Coded, term_coded, term_twice}
+use Rattle.checker.proofs.Answers.{nodes_same}
+use Rattle.judgement.proofs.Renaming.{Coded, term_coded, term_twice}
 use Rattle.judgement.proofs.Standing.{few_names, ends, prop_stood, prop_named, label_over, label_stood}
 
 -- the term that is held is the sheet's

@@ -1,4 +1,4 @@
--- A term over other names has as many nodes; over numbers and then over names, it is the term over the names at once.
+-- A term over numbers and then over names is the term over the names at once.
 use Prim.Native.Nat.{ℕ, zero, suc, ◌+◌, ◌≤◌, ◌<◌}
 use mathlib.Core.Path.{◌≡◌, refl, ap, subst}
 use mathlib.Core.Bool.{Bool, true, false, cond}
@@ -10,24 +10,10 @@ use borrow.Author.Tests.{eqb-false}
 use Rattle.definitions.specs.Prop.{Prop}
 use Rattle.definitions.specs.Code.{Codable}
 use Rattle.definitions.specs.Term.{Label, proposition, datatype, ProofTerm, Ident, Pair, Named, Function, Application, LetIn, Case, TypeAscription, Unit, Sorry, of_label, of_labels, rename_label, rename_parameter_label, rename_term}
-use Rattle.definitions.specs.TermText.{nodes}
 use Rattle.graft_laws.proofs.MergedSheet.{rename_twice}
 use Rattle.proof_term.specs.Records.{field_at, label_of, term_at}
 use Rattle.proof_term.specs.Labels.{has_label, Labelled, of_own_label, of_records, single, term_labels, record_labels, InOrder}
 use Rattle.proof_term.specs.Readable.{LabelBelow, ParameterLabelBelow, NamesBelow}
-
-pub nodes_same : {N M : Type 0} (f : N → M) (t : ProofTerm N) → nodes (rename_term f t) ≡ nodes t
-unfolding nodes rename_term
-nodes_same f (Ident x) = refl
-nodes_same f (Pair a b) = rw (nodes_same f a, nodes_same f b)
-nodes_same f (Named g a) = rw (nodes_same f a)
-nodes_same f (Function x l a) = rw (nodes_same f a)
-nodes_same f (Application a b) = rw (nodes_same f a, nodes_same f b)
-nodes_same f (LetIn x y a b) = rw (nodes_same f a, nodes_same f b)
-nodes_same f (Case a x b y c) = rw (nodes_same f a, nodes_same f b, nodes_same f c)
-nodes_same f (TypeAscription a l) = rw (nodes_same f a)
-nodes_same f Unit = refl
-nodes_same f Sorry = refl
 
 -- Of so many names:
 module _ (n : ℕ) where
