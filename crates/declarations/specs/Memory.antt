@@ -6,6 +6,7 @@ use Rattle.definitions.specs.Code.{parameter_limit}
 use Rattle.definitions.specs.Text.{occurs, firsts, eq_atom_use, compare_atom_use}
 use Rattle.definitions.specs.NameIndex.{slot_count}
 use Rattle.vocabulary.specs.declared.Vocabulary.{Vocabulary}
+use Rattle.vocabulary.specs.declared.Memory.{Memory}
 use Rattle.vocabulary.specs.Vocabulary.{name_in, Names}
 use Rattle.prop_lists.specs.Entries.{use_of}
 use Rattle.declarations.specs.declared.Declaration.{Declaration}
@@ -83,6 +84,10 @@ module _ (bytes : List ℕ) (v : Vocabulary) where
     pub named : (j : ℕ) → j < m.len → Names bytes v (row m.rows j).name
     pub few : m.len ≤ flagged m.seen
     pub chained : Chained (slot_of (name_in bytes v) m.rows) m.len m.newest m.older
+
+-- the declarations have names of a memory
+abbrev pub DeclaredIn : Memory → List Declaration → Type 0
+DeclaredIn m = Declared m.bytes.now m.vocabulary
 
 -- what it is to note uses, by their names' bytes: whichever uses were noted before, afterwards these are too, behind them
 pub record Notes (f : ℕ → Name) {N : ℕ} (uses : List (AtomUse ℕ)) (m m' : Table N) : Type 0 where

@@ -6,9 +6,9 @@
 ghost use Rattle.std.specs.Prelude.{◌≡◌, [], ◌∷◌, ◌≤◌, ◌<◌, ◌&&◌, eqb, length};
 ghost use Rattle.definitions.specs.Name.{eq_name};
 ghost use Rattle.definitions.specs.NameIndex.{start_slot};
-ghost use Rattle.vocabulary.specs.Vocabulary.{name_in, Names};
+ghost use Rattle.vocabulary.specs.Memory.{name_of, HasName};
 ghost use Rattle.prop_lists.specs.Entries.{use_of};
-ghost use Rattle.declarations.specs.Memory.{use_in, declarations, declared_uses, is_declared, Declared, Counted, Fresh, Room, Held};
+ghost use Rattle.declarations.specs.Memory.{use_in, declarations, declared_uses, is_declared, DeclaredIn, Counted, Fresh, Room, Held};
 ghost use Rattle.declarations.specs.Lines.{count_text, break_before, declaration, declaration_lines};
 
 use definitions::TermList;
@@ -18,7 +18,7 @@ use output::Sink;
 use output::sink::put_decimal;
 use prefix_code::PARAMETER_LIMIT;
 use prop_lists::UseSink;
-use vocabulary::Vocabulary;
+use vocabulary::Memory;
 
 // The flags of a name: one for each count of parameters from 0 on.
 const NAME_FLAGS: usize = PARAMETER_LIMIT as usize + 1;
@@ -30,19 +30,20 @@ pub struct Declaration {
     pub count: u16,
 }
 
-// Declarations stand loose beside their memory and its vocabulary where they are written, measured and sorted: a sort changes them behind a
-// `&mut` and the others read them behind a `&`, so it would take two structs, and `text`, which measures, sorts and then writes them, would
-// show `Declared` three times to make one, as it does now at its calls.
-
-// Whether a declaration has this count and the bytes of this name. The counts are compared first, so that few names are.
-fn has(other: Declaration, name: usize, count: usize, bytes: &[u8], v: Vocabulary) -> bool
-    requires { Names bytes.now v name × Names bytes.now v other.name }
-    ensures { result ≡ (eq_name (name_in bytes.now v name) (name_in bytes.now v other.name) && eqb count other.count) }
-{
-    let wanted = vocabulary::name(bytes, v, name);
-    count == usize::from(other.count)
-        && same_name(wanted, vocabulary::name(bytes, v, usize::from(other.name)))
+impl Declaration {
+    // Whether it has this count and the bytes of this name. The counts are compared first, so that few names are.
+    fn has(&self, memory: &Memory, name: usize, count: usize) -> bool
+        requires { HasName memory.now name × HasName memory.now self.now.name }
+        ensures { result ≡ (eq_name (name_of memory.now name) (name_of memory.now self.now.name) && eqb count self.now.count) }
+    {
+        count == usize::from(self.count)
+            && same_name(memory.name(name), memory.name(usize::from(self.name)))
+    }
 }
+
+// Declarations stand loose beside their memory where they are written, measured and sorted: a sort changes them behind a `&mut` and the
+// others read them behind a `&`, so it would take two structs, and `text`, which measures, sorts and then writes them, would show
+// `Declared` three times to make one, as it does now at its calls.
 
 // The declarations so far: the first `len` of N rows. Whether a use was noted, by its name's number and its count. The declarations of a
 // start slot in a chain: its newest, and behind each the next older one. A link is no field of a row, since `declared` lends the rows as a
@@ -59,21 +60,19 @@ pub struct Table<const N: usize> {
 // The declarations over the names of a memory. As a sink of uses they note each use that is not declared yet.
 #[derive(Drop)]
 pub struct Declarations<'a, const N: usize> {
-    bytes: &'a [u8],
-    v: Vocabulary,
+    memory: Memory<'a>,
     table: Table<N>,
-    pub ghost held: { Held bytes.now v table },
+    pub ghost held: { Held memory.bytes.now memory.vocabulary table },
 }
 
 impl<'a, const N: usize> Declarations<'a, N> {
     // No declarations.
-    pub fn new(bytes: &'a [u8], v: Vocabulary) -> Self
-        requires { Room bytes.now v N }
-        ensures { Fresh result.table × (result.bytes.now ≡ bytes.now) × (result.v ≡ v) }
+    pub fn new(memory: Memory<'a>) -> Self
+        requires { Room memory.bytes.now memory.vocabulary N }
+        ensures { Fresh result.table × (result.memory ≡ memory.entry) }
     {
         Declarations {
-            bytes,
-            v,
+            memory,
             table: Table {
                 rows: [Declaration::default(); N],
                 len: 0,
@@ -95,14 +94,14 @@ impl<'a, const N: usize> Declarations<'a, N> {
     // By `successors` it would have to be shown of a whole run that it ends; the loop's measure says it of one step.
     #[tactic(auto, unfolding(definitions::specs::NameIndex::slot_count), using(crate::proofs::Noting::slot_below))]
     fn is_declared(&self, slot: usize, name: usize, count: usize) -> bool
-        requires known { name < self.now.v.name_count }
-        requires its_slot { slot ≡ start_slot (name_in self.now.bytes.now self.now.v name) }
-        ensures { result ≡ is_declared (name_in self.now.bytes.now self.now.v) (declarations self.now.table) (use_of name count) }
+        requires known { name < self.now.memory.vocabulary.name_count }
+        requires its_slot { slot ≡ start_slot (name_of self.now.memory name) }
+        ensures { result ≡ is_declared (name_of self.now.memory) (declarations self.now.table) (use_of name count) }
     {
         let mut next = self.table.newest[slot];
         while let Some(j) = next {
             let j = usize::from(j);
-            if has(self.table.rows[j], name, count, self.bytes, self.v) {
+            if self.table.rows[j].has(&self.memory, name, count) {
                 return true;
             }
             next = self.table.older[j];
@@ -116,7 +115,7 @@ impl<'a, const N: usize> UseSink for Declarations<'a, N> {
 
     ghost puts = { DeclarationsPut };
 
-    ghost knows = { λ m name. name < m.v.name_count };
+    ghost knows = { λ m name. name < m.memory.vocabulary.name_count };
 
     ghost laws = { declarations_laws };
 
@@ -128,7 +127,7 @@ impl<'a, const N: usize> UseSink for Declarations<'a, N> {
         if self.table.seen[flag] {
             return;
         }
-        let slot = start_slot(vocabulary::name(self.bytes, self.v, name));
+        let slot = start_slot(self.memory.name(name));
         let known = self.is_declared(slot, name, count);
         self.table.seen[flag] = true;
         if known {
@@ -162,15 +161,14 @@ fn put_declaration<S: Sink<u8>>(
     sink: &mut S,
     this: Declaration,
     list: TermList,
-    bytes: &[u8],
-    v: Vocabulary,
+    memory: &Memory,
 )
-    requires { Names bytes.now v this.name }
-    ensures line { S.puts sink.old (declaration list (use_in (name_in bytes.now v) this)) sink.new }
+    requires { HasName memory.now this.name }
+    ensures line { S.puts sink.old (declaration list (use_in (name_of memory.now) this)) sink.new }
     // A count that is handed over fits 16 bits.
     ensures counted { this.count < 65536 }
 {
-    let name = vocabulary::name(bytes, v, this.name as usize);
+    let name = memory.name(this.name as usize);
     match list {
         TermList::Atoms => {
             sink.put_all(b"atom ");
@@ -201,17 +199,16 @@ pub fn put_declarations<S: Sink<u8>>(
     sink: &mut S,
     declared: &[Declaration],
     list: TermList,
-    bytes: &[u8],
-    v: Vocabulary,
+    memory: &Memory,
 )
-    requires { Declared bytes.now v declared.now }
+    requires { DeclaredIn memory.now declared.now }
     ensures lines { S.puts sink.old
-        (declaration_lines list (declared_uses (name_in bytes.now v) declared.now)) sink.new }
+        (declaration_lines list (declared_uses (name_of memory.now) declared.now)) sink.new }
     // A slice says nothing of its elements' numbers. That the counts fit gives the lines a bound, and a counter then tells their length.
     ensures counted { Counted declared.now }
 {
     for (j, this) in declared.iter().enumerate() {
         put_line_break(sink, j);
-        put_declaration(sink, *this, list, bytes, v);
+        put_declaration(sink, *this, list, memory);
     }
 }

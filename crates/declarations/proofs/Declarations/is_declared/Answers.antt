@@ -4,7 +4,7 @@ use native.Mathlib.Omega.{arith}
 use borrow.Author.Rules.{rules}
 use lib.ListN.{length}
 use Rattle.std.specs.Prelude.{Some}
-use Rattle.vocabulary.specs.Vocabulary.{name_in}
+use Rattle.vocabulary.specs.Memory.{name_of}
 use Rattle.prop_lists.specs.Entries.{use_of}
 use Rattle.declarations.specs.Chains.{row}
 use Rattle.declarations.proofs.Noting.{newest_of}
@@ -15,7 +15,7 @@ use Rattle.declarations.proofs.Declarations.is_declared.Goals.{In-Some}
 -- declaration j is the last of those that are left
 these : (g : _) (c : In-Some g) →
     let s = c.args in
-    Remain (name_in s.self.now.bytes.now s.self.now.v) s.self.now.table.rows s.self.now.table.len (use_of s.name s.count) (Some c.in-Some.j)
+    Remain (name_of s.self.now.memory) s.self.now.table.rows s.self.now.table.len (use_of s.name s.count) (Some c.in-Some.j)
 these g c = rw c.in-Some.is at c.loop-next.invariant
 
 pub loop-next-init : goal.loop-next-init
@@ -36,12 +36,12 @@ pub returns-then-has : goal.returns-then-has
 returns-then-has g c =
     let s = c.args in
     let long : length s.self.now.table.rows ≡ g.row.N = search rules in
-    sym (found (these g (goal.at.returns-then-has g c).In-Some) (omega (arith, long, c.args.self.now.held.within)) (same_is (name_in s.self.now.bytes.now s.self.now.v) (use_of s.name s.count) (row s.self.now.table.rows c.in-Some.j) ∙ (sym (rw c.from-j.ensures at c.has.ensures) ∙ c.if-has.true)))
+    sym (found (these g (goal.at.returns-then-has g c).In-Some) (omega (arith, long, c.args.self.now.held.within)) (same_is (name_of s.self.now.memory) (use_of s.name s.count) (row s.self.now.table.rows c.in-Some.j) ∙ (sym (rw c.from-j.ensures at c.has.ensures) ∙ c.if-has.true)))
 
 pub loop-next-preserved : goal.loop-next-preserved
 loop-next-preserved g c =
     let s = c.args in
-    let other = same_is (name_in s.self.now.bytes.now s.self.now.v) (use_of s.name s.count) (row s.self.now.table.rows c.in-Some.j) ∙ (sym (rw c.from-j.ensures at c.has.ensures) ∙ c.if-has.false) in
+    let other = same_is (name_of s.self.now.memory) (use_of s.name s.count) (row s.self.now.table.rows c.in-Some.j) ∙ (sym (rw c.from-j.ensures at c.has.ensures) ∙ c.if-has.false) in
     rw c.from-j.ensures (passed_over (these g (goal.at.loop-next-preserved g c).In-Some) c.args.self.now.held.chained other)
 
 pub loop-next-smaller : goal.loop-next-smaller

@@ -10,4 +10,4 @@ invariant_of-result g c = record { held = fresh_held (record { none = refl; unse
 
 pub returns : goal.returns
 unfolding slot_count
-returns g c = (record { none = refl; unseen = refl; unchained = refl }, refl, refl)
+returns g c = (record { none = refl; unseen = refl; unchained = refl }, refl)

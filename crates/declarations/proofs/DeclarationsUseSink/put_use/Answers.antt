@@ -21,8 +21,7 @@ bounds-self-flag g c = has_flag c.args.self.now.held c.requires.known c.requires
 
 pub returns-then-self-flag : goal.returns-then-self-flag
 returns-then-self-flag g c = record {
-  same_bytes = refl;
-  same_vocabulary = refl;
+  same_memory = refl;
   notes = noted_again c.args.self.now.held c.requires.known c.requires.bounds.1 c.if-self-flag.true;
 }
 
@@ -43,8 +42,7 @@ invariant_of-self g c = record { held = held_known c.args.self.now.held c.requir
 
 pub returns-then-known : goal.returns-then-known
 returns-then-known g c = record {
-  same_bytes = refl;
-  same_vocabulary = refl;
+  same_memory = refl;
   notes = noted_known c.args.self.now.held c.requires.known c.requires.bounds.1 (search rules) c.if-self-flag.false (sym c.is_declared-known.ensures ∙ c.if-known.true);
 }
 
@@ -68,8 +66,7 @@ invariant_of-self-2 g c = record {
 pub returns : goal.returns
 unfolding slot_count
 returns g c = record {
-  same_bytes = refl;
-  same_vocabulary = refl;
+  same_memory = refl;
   notes = noted_new c.args.self.now.held c.requires.known c.requires.bounds.1 (search rules) c.if-self-flag.false (search rules)
       (c.start_slot-slot.ensures ∙ ap start_slot c.name.ensures) (sym c.is_declared-known.ensures ∙ c.if-known.false);
 }
