@@ -6,7 +6,7 @@ use Rattle.definitions.specs.Code.{parameter_limit}
 use Rattle.definitions.specs.Text.{occurs, firsts, eq_atom_use, compare_atom_use}
 use Rattle.definitions.specs.NameIndex.{slot_count}
 use Rattle.vocabulary.specs.declared.Vocabulary.{Vocabulary}
-use Rattle.vocabulary.specs.declared.Memory.{Memory}
+use Rattle.vocabulary.specs.declared.memory.Memory.{Memory}
 use Rattle.vocabulary.specs.Vocabulary.{name_in, Names}
 use Rattle.prop_lists.specs.Entries.{use_of}
 use Rattle.declarations.specs.declared.Declaration.{Declaration}
