@@ -7,6 +7,7 @@ use Rattle.definitions.specs.Prop.{AtomUse}
 use Rattle.definitions.specs.Term.{Label, ProofTerm, of_labels, label_atoms, label_datatypes}
 use Rattle.prefix_code.specs.PropAt.{Present}
 use Rattle.vocabulary.specs.declared.Vocabulary.{Vocabulary}
+use Rattle.vocabulary.specs.declared.memory.Memory.{Memory}
 use Rattle.vocabulary.specs.Vocabulary.{code_in, prop_in, Within, SomeProposition}
 use Rattle.proof_term.specs.Records.{record_size, term_at}
 use Rattle.proof_term.specs.Labels.{InOrder, LabelsFit}
@@ -67,3 +68,10 @@ module _ (bytes : List ℕ) (v : Vocabulary) where
     pub within : Within bytes v
     pub few : v.name_count ≤ 65536
     pub labels : LabelsFit v.name_count (Present v.name_count (code_in bytes v)) records n
+
+-- the same of a memory as a value
+abbrev pub term_of : Memory → List ℕ → ℕ → ProofTerm ℕ
+term_of m = term_in m.bytes.now m.vocabulary
+
+abbrev pub ListableIn : Memory → List ℕ → ℕ → Type 0
+ListableIn m = Listable m.bytes.now m.vocabulary

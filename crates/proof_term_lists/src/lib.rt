@@ -4,14 +4,14 @@
 
 ghost use Rattle.std.specs.Prelude.{◌≡◌, ℕ, ◌+◌, ◌*◌, ◌≤◌, ◌<◌, length};
 ghost use Rattle.proof_term.specs.Records.{record_size};
-ghost use Rattle.proof_term_lists.specs.Labels.{term_uses, is_listed, record_adds, added_uses, AddedStands, Listable, term_in};
+ghost use Rattle.proof_term_lists.specs.Labels.{term_uses, is_listed, record_adds, added_uses, AddedStands, ListableIn, term_of};
 ghost use Rattle.proof_term_lists.specs.Numbers.{list_numbers};
 
 use definitions::{TermList, Version};
 use output::Sink;
 use proof_term::{Label, node_at};
 use prop_lists::{Numbers, UseSink, put_entries};
-use vocabulary::Vocabulary;
+use vocabulary::Memory;
 
 // Whether a list takes up a label: a datatype is no atom, and the datatypes of a proposition are listed in versions 2 and 3 only.
 #[tactic(auto, unfolding(crate::specs::Labels::is_listed))]
@@ -38,21 +38,16 @@ fn record_adds(term_records: &[u16], m: usize, list: TermList) -> Option<Label>
 }
 
 // The uses in what a record adds: a datatype, or the entries of the proposition at an offset of the code.
-fn put_added<S: UseSink>(
-    sink: &mut S,
-    list: TermList,
-    bytes: &[u8],
-    v: Vocabulary,
-    added: Option<Label>,
-)
-    requires added_stands { AddedStands bytes.now v added }
-    requires known { (name : ℕ) → name < v.name_count → S.knows sink.old name }
-    ensures { S.puts sink.old (added_uses bytes.now v list added) sink.new }
+fn put_added<S: UseSink>(sink: &mut S, list: TermList, memory: &Memory, added: Option<Label>)
+    requires added_stands { AddedStands memory.now.bytes.now memory.now.vocabulary added }
+    requires known { (name : ℕ) → name < memory.now.vocabulary.name_count → S.knows sink.old name }
+    ensures { S.puts sink.old
+        (added_uses memory.now.bytes.now memory.now.vocabulary list added) sink.new }
 {
     match added {
         None => {}
         Some(Label::Datatype(name)) => sink.put_use(usize::from(name), 0),
-        Some(Label::Proposition(at)) => put_entries(sink, list, bytes, v, usize::from(at)),
+        Some(Label::Proposition(at)) => put_entries(sink, list, memory, usize::from(at)),
     }
 }
 
@@ -60,18 +55,17 @@ fn put_added<S: UseSink>(
 pub fn put_term_uses<S: UseSink>(
     sink: &mut S,
     list: TermList,
-    bytes: &[u8],
-    v: Vocabulary,
+    memory: &Memory,
     term_records: &[u16],
     n: usize,
 )
-    requires listable { Listable bytes.now v term_records.now n }
-    requires known { (name : ℕ) → name < v.name_count → S.knows sink.old name }
-    ensures { S.puts sink.old (term_uses list (term_in bytes.now v term_records.now n)) sink.new }
+    requires listable { ListableIn memory.now term_records.now n }
+    requires known { (name : ℕ) → name < memory.now.vocabulary.name_count → S.knows sink.old name }
+    ensures { S.puts sink.old (term_uses list (term_of memory.now term_records.now n)) sink.new }
 {
     for m in 0..=n {
         let added = record_adds(term_records, m, list);
-        put_added(sink, list, bytes, v, added);
+        put_added(sink, list, memory, added);
     }
 }
 
@@ -79,14 +73,13 @@ pub fn put_term_uses<S: UseSink>(
 pub fn put_term_list<S: Sink<u16>>(
     sink: &mut S,
     list: TermList,
-    bytes: &[u8],
-    v: Vocabulary,
+    memory: &Memory,
     term_records: &[u16],
     n: usize,
 )
-    requires { Listable bytes.now v term_records.now n }
-    ensures { S.puts sink.old (list_numbers list (term_in bytes.now v term_records.now n)) sink.new }
+    requires { ListableIn memory.now term_records.now n }
+    ensures { S.puts sink.old (list_numbers list (term_of memory.now term_records.now n)) sink.new }
 {
     let mut numbers = Numbers { sink, list };
-    put_term_uses(&mut numbers, list, bytes, v, term_records, n);
+    put_term_uses(&mut numbers, list, memory, term_records, n);
 }

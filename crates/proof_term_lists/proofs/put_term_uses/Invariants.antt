@@ -5,5 +5,5 @@ use Rattle.proof_term_lists.proofs.put_term_uses.Given as goal
 
 abbrev pub invariant-loop-m : goal.invariant-loop-m
 invariant-loop-m g l =
-    g.S.UseSink.puts l.initial.sink (uses_below l.bytes l.v l.list l.term_records l.m) l.sink
-    × ((name : ℕ) → name < l.v.name_count → g.S.UseSink.knows l.sink name)
+    g.S.UseSink.puts l.initial.sink (uses_below l.memory.bytes.now l.memory.vocabulary l.list l.term_records l.m) l.sink
+    × ((name : ℕ) → name < l.memory.vocabulary.name_count → g.S.UseSink.knows l.sink name)
