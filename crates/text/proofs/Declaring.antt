@@ -79,14 +79,14 @@ module _ {s : List ℕ} (a : Accepted s) {words : Vocabulary} (same : words ≡ 
 
     -- once the term's labels and then the goal are noted, the declarations are those of the sheet's text
     pub declares : {terms : List ℕ} {n : ℕ} → HeldTerm s terms n → (list : TermList) → {N : ℕ} {m₀ m₁ m₂ : Declarations N}
-        → Fresh m₀.table → m₀.bytes.now ≡ s → m₀.v ≡ words
+        → Fresh m₀.table → m₀.memory.bytes.now ≡ s → m₀.memory.vocabulary ≡ words
         → DeclarationsPut m₀ (term_uses list (term_in s words terms n)) m₁
         → DeclarationsPut m₁ (entries list (prop_in s words goal-offset)) m₂ → Declares s First list (declarations m₂.table)
     declares {terms} {n} term list {m₂ = m₂} fresh its-bytes its-words first second =
         let all = declarations_laws.then first second in
         let noted = rw (its-bytes, its-words) at (all.notes.adds [] (fresh_noted fresh _)) in
         record {
-          table = rw (all.same_bytes, all.same_vocabulary, its-bytes, its-words, same) at (declared_held m₂.held);
+          table = rw (all.same_memory, its-bytes, its-words, same) at (declared_held m₂.held);
           entries = λ t is_term.
               let held : t ≡ term_of s terms n = cc (named_term_lem term) in
               let f = name_in s words in

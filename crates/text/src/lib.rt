@@ -23,7 +23,7 @@ use number::pair_offset;
 use output::{Sink, Writer};
 use proof_term_length::term_length;
 use proof_term_lists::put_term_uses;
-use prop::fill_all_ends;
+use prop::{Propositions, fill_all_ends};
 use prop_lists::put_entries;
 use sheet::{AdmittedSheet, Sheet};
 use sheet_term::{TERM_NUMBERS, sheet_term};
@@ -73,19 +73,18 @@ impl<'a, 's> SheetTerm<'a, 's> {
     fn declare<'m>(
         &self,
         list: TermList,
-        memory: &'m mut [Declaration; DECLARATION_LIMIT],
+        room: &'m mut [Declaration; DECLARATION_LIMIT],
     ) -> &'m mut [Declaration]
         ensures few { length result.now < 32768 }
         ensures declares { Declares self.now.0 First list result.now }
     {
-        let s = self.sheet.bytes();
-        let v = self.sheet.vocabulary();
-        let mut noted = Declarations::<DECLARATION_LIMIT>::new(s, v);
-        put_term_uses(&mut noted, list, s, v, self.terms, self.n);
+        let memory = self.sheet.memory();
+        let mut noted = Declarations::<DECLARATION_LIMIT>::new(memory);
+        put_term_uses(&mut noted, list, &memory, self.terms, self.n);
         let goal = pair_offset(self.sheet.proposition_pairs(), self.sheet.header().goal);
-        put_entries(&mut noted, list, s, v, goal);
+        put_entries(&mut noted, list, &memory, goal);
         let all = noted.declared();
-        let declared = &mut memory[..all.len()];
+        let declared = &mut room[..all.len()];
         declared.copy_from_slice(all);
         declared
     }
@@ -94,16 +93,16 @@ impl<'a, 's> SheetTerm<'a, 's> {
     fn declare_both<'m>(
         &self,
         version: Version,
-        first_memory: &'m mut [Declaration; DECLARATION_LIMIT],
-        second_memory: &'m mut [Declaration; DECLARATION_LIMIT],
+        first_room: &'m mut [Declaration; DECLARATION_LIMIT],
+        second_room: &'m mut [Declaration; DECLARATION_LIMIT],
     ) -> (&'m mut [Declaration], &'m mut [Declaration])
         ensures declares { Declares self.now.0 First (first_list version) result.0.now }
         ensures declares_2 { Declares self.now.0 First (second_list version) result.1.now }
         ensures few { (length result.0.now < 32768) × (length result.1.now < 32768) }
     {
         let (upper, lower) = lists(version);
-        let first = self.declare(upper, first_memory);
-        let second = self.declare(lower, second_memory);
+        let first = self.declare(upper, first_room);
+        let second = self.declare(lower, second_room);
         (first, second)
     }
 
@@ -112,9 +111,11 @@ impl<'a, 's> SheetTerm<'a, 's> {
         requires { EndsKnown self.now.0 ends.now }
         ensures { S.puts sink.old (display_term style (term_of self.now.0 self.now.1 self.now.2)) sink.new }
     {
-        let s = self.sheet.bytes();
-        let v = self.sheet.vocabulary();
-        proof_term_display::put_term(sink, self.terms, self.n, s, v, ends, style);
+        let propositions = Propositions {
+            memory: self.sheet.memory(),
+            ends,
+        };
+        proof_term_display::put_term(sink, self.terms, self.n, propositions, style);
     }
 
     // How long the term's text is.
@@ -122,9 +123,11 @@ impl<'a, 's> SheetTerm<'a, 's> {
         requires { EndsKnown self.now.0 ends.now }
         ensures { TermLength (display_term style (term_of self.now.0 self.now.1 self.now.2)) result }
     {
-        let s = self.sheet.bytes();
-        let v = self.sheet.vocabulary();
-        term_length(self.terms, self.n, s, v, ends, style, TERM_TEXT_LIMIT)
+        let propositions = Propositions {
+            memory: self.sheet.memory(),
+            ends,
+        };
+        term_length(self.terms, self.n, propositions, style, TERM_TEXT_LIMIT)
     }
 
     // How long the text of the term in a version is.
@@ -135,9 +138,9 @@ impl<'a, 's> SheetTerm<'a, 's> {
         let mut ends = [0u16; Sheet::CODE_LIMIT];
         fill_sheet_ends(sheet, &mut ends);
         let term = self.measure_term(style, &ends);
-        let mut first_memory = [Declaration::default(); DECLARATION_LIMIT];
-        let mut second_memory = [Declaration::default(); DECLARATION_LIMIT];
-        let (first, second) = self.declare_both(version, &mut first_memory, &mut second_memory);
+        let mut first_room = [Declaration::default(); DECLARATION_LIMIT];
+        let mut second_room = [Declaration::default(); DECLARATION_LIMIT];
+        let (first, second) = self.declare_both(version, &mut first_room, &mut second_room);
         heading_length(sheet, version, first, second) + term
     }
 }
@@ -149,7 +152,7 @@ fn arrange(sheet: &AdmittedSheet, version: Version, declared: &mut [Declaration]
 {
     match version {
         Version::First | Version::Second => {}
-        Version::Third => sort_declarations(declared, sheet.bytes(), sheet.vocabulary()),
+        Version::Third => sort_declarations(declared, &sheet.memory()),
     }
 }
 
@@ -181,12 +184,11 @@ fn put_heading<S: Sink<u8>>(
         (declared_uses (name_in sheet.now (sheet_vocabulary sheet.now)) first.now)
         (declared_uses (name_in sheet.now (sheet_vocabulary sheet.now)) second.now)) sink.new }
 {
-    let s = sheet.bytes();
-    let v = sheet.vocabulary();
+    let memory = sheet.memory();
     let (upper, lower) = lists(version);
-    put_declarations(sink, first, upper, s, v);
+    put_declarations(sink, first, upper, &memory);
     sink.put(b'\n');
-    put_declarations(sink, second, lower, s, v);
+    put_declarations(sink, second, lower, &memory);
     sink.put_all(b"\n\n");
 }
 
@@ -203,10 +205,9 @@ fn heading_length(
     requires few { (length first.now < 32768) × (length second.now < 32768) }
     ensures { HeadingLength sheet.now version result }
 {
-    let s = sheet.bytes();
-    let v = sheet.vocabulary();
+    let memory = sheet.memory();
     let (upper, lower) = lists(version);
-    lines_length(first, upper, s, v) + lines_length(second, lower, s, v) + 3
+    lines_length(first, upper, &memory) + lines_length(second, lower, &memory) + 3
 }
 
 // How long the text of a sheet is in a version and a style, or the refusal of the sheet's term, for every sequence of bytes.
@@ -244,9 +245,9 @@ pub fn text(
     if out.len() < term {
         return Err(Reason::Room.at(0));
     }
-    let mut first_memory = [Declaration::default(); DECLARATION_LIMIT];
-    let mut second_memory = [Declaration::default(); DECLARATION_LIMIT];
-    let (first, second) = held.declare_both(version, &mut first_memory, &mut second_memory);
+    let mut first_room = [Declaration::default(); DECLARATION_LIMIT];
+    let mut second_room = [Declaration::default(); DECLARATION_LIMIT];
+    let (first, second) = held.declare_both(version, &mut first_room, &mut second_room);
     let end = heading_length(sheet, version, first, second) + term;
     if out.len() < end {
         return Err(Reason::Room.at(0));

@@ -4,10 +4,10 @@ use Rattle.text.proofs.Heading.{printable, heading_measured}
 use Rattle.text.proofs.heading_length.Goals as goal
 
 pub lines_length-requires : goal.lines_length-requires
-lines_length-requires c = (rw c.bytes-s.ensures.is (printable c.vocabulary-v.ensures.is c.requires.declares), c.requires.few.0)
+lines_length-requires c = (rw c.memory-memory.ensures.bytes (printable c.memory-memory.ensures.vocabulary c.requires.declares), c.requires.few.0)
 
 pub lines_length-requires-2 : goal.lines_length-requires-2
-lines_length-requires-2 c = (rw c.bytes-s.ensures.is (printable c.vocabulary-v.ensures.is c.requires.declares_2), c.requires.few.1)
+lines_length-requires-2 c = (rw c.memory-memory.ensures.bytes (printable c.memory-memory.ensures.vocabulary c.requires.declares_2), c.requires.few.1)
 
 pub overflow_add-result : goal.overflow_add-result
 overflow_add-result c = omega (arith, c.lines_length.ensures.small, c.lines_length-2.ensures.small)
@@ -17,6 +17,6 @@ overflow_add-result-2 c = omega (arith, c.lines_length.ensures.small, c.lines_le
 
 pub returns : goal.returns
 returns c =
-    heading_measured c.vocabulary-v.ensures.is c.args.version c.lists-upper.ensures.0 c.lists-upper.ensures.1
+    heading_measured c.memory-memory.ensures.vocabulary c.args.version c.lists-upper.ensures.0 c.lists-upper.ensures.1
     c.requires.declares c.requires.declares_2
-    (rw c.bytes-s.ensures.is at c.lines_length.ensures) (rw c.bytes-s.ensures.is at c.lines_length-2.ensures)
+    (rw c.memory-memory.ensures.bytes at c.lines_length.ensures) (rw c.memory-memory.ensures.bytes at c.lines_length-2.ensures)

@@ -6,10 +6,10 @@ use Rattle.text.proofs.Heading.{heading_put}
 use Rattle.text.proofs.put_heading.Goals as goal
 
 pub put_declarations-requires : goal.put_declarations-requires
-put_declarations-requires g c = rw (c.bytes-s.ensures.is, c.vocabulary-v.ensures.is) c.requires.first
+put_declarations-requires g c = rw (c.memory-memory.ensures.bytes, c.memory-memory.ensures.vocabulary) c.requires.first
 
 pub put_declarations-requires-2 : goal.put_declarations-requires-2
-put_declarations-requires-2 g c = rw (c.bytes-s.ensures.is, c.vocabulary-v.ensures.is) c.requires.second
+put_declarations-requires-2 g c = rw (c.memory-memory.ensures.bytes, c.memory-memory.ensures.vocabulary) c.requires.second
 
 pub returns : goal.returns
 returns g c =
@@ -17,5 +17,5 @@ returns g c =
     let f = name_in given.sheet.now (sheet_vocabulary given.sheet.now) in
     heading_put given.version c.lists-upper.ensures.0 c.lists-upper.ensures.1 (declared_uses f given.first.now) (declared_uses f given.second.now)
     g.met.S.Sink.laws
-    (rw (c.bytes-s.ensures.is, c.vocabulary-v.ensures.is) at c.put_declarations.ensures.lines) c.put.ensures
-    (rw (c.bytes-s.ensures.is, c.vocabulary-v.ensures.is) at c.put_declarations-2.ensures.lines) c.put_all.ensures
+    (rw (c.memory-memory.ensures.bytes, c.memory-memory.ensures.vocabulary) at c.put_declarations.ensures.lines) c.put.ensures
+    (rw (c.memory-memory.ensures.bytes, c.memory-memory.ensures.vocabulary) at c.put_declarations-2.ensures.lines) c.put_all.ensures

@@ -1,5 +1,5 @@
 -- The term's labels are noted, and then the goal.
-use mathlib.Core.Path.{◌∙◌}
+use mathlib.Core.Path.{ap, ◌∙◌}
 use native.Mathlib.Omega.{arith}
 use borrow.Author.Rules.{rules}
 use Rattle.text.proofs.Accepted.{goal_pair}
@@ -8,14 +8,14 @@ use Rattle.text.proofs.Declaring.{room, goal_there, declares}
 use Rattle.text.proofs.SheetTerm.declare.Goals as goal
 
 pub new-noted-requires : goal.new-noted-requires
-new-noted-requires c = let v = c.vocabulary-v.ensures in (search rules, rw c.bytes-s.ensures.is (room v.accepted v.is))
+new-noted-requires c = let m = c.memory-memory.ensures in (search rules, rw m.bytes (room m.accepted m.vocabulary))
 
 pub put_term_uses-requires : goal.put_term_uses-requires
 put_term_uses-requires c =
-    let v = c.vocabulary-v.ensures in
+    let m = c.memory-memory.ensures in
     record {
-      listable = rw c.bytes-s.ensures.is (listable v.accepted v.is c.self.invariant);
-      known = λ name below. rw c.new-noted.ensures.2 below;
+      listable = rw m.bytes (listable m.accepted m.vocabulary c.self.invariant);
+      known = λ name below. rw c.new-noted.ensures.1 below;
     }
 
 pub pair_offset-goal-requires : goal.pair_offset-goal-requires
@@ -24,10 +24,10 @@ pair_offset-goal-requires c =
 
 pub put_entries-requires : goal.put_entries-requires
 put_entries-requires c =
-    let v = c.vocabulary-v.ensures in
+    let m = c.memory-memory.ensures in
     record {
-      some_proposition = rw c.bytes-s.ensures.is (goal_there v.accepted v.is c.proposition_pairs.ensures.is c.header.ensures.is c.pair_offset-goal.ensures);
-      known = λ name below. rw (c.put_term_uses.ensures.same_vocabulary, c.new-noted.ensures.2) below;
+      some_proposition = rw m.bytes (goal_there m.accepted m.vocabulary c.proposition_pairs.ensures.is c.header.ensures.is c.pair_offset-goal.ensures);
+      known = λ name below. rw (c.put_term_uses.ensures.same_memory, c.new-noted.ensures.1) below;
     }
 
 pub returns-clause-few : goal.returns-clause-few
@@ -35,8 +35,8 @@ returns-clause-few c = omega (arith, c.declared-all.ensures.1, c.put_entries.new
 
 pub returns-clause-declares : goal.returns-clause-declares
 returns-clause-declares c =
-    let v = c.vocabulary-v.ensures in
-    let all = declares v.accepted v.is c.proposition_pairs.ensures.is c.header.ensures.is c.pair_offset-goal.ensures c.self.invariant
-    c.args.list c.new-noted.ensures.0 (c.new-noted.ensures.1 ∙ c.bytes-s.ensures.is) c.new-noted.ensures.2
-    (rw c.bytes-s.ensures.is at c.put_term_uses.ensures) (rw c.bytes-s.ensures.is at c.put_entries.ensures) in
+    let m = c.memory-memory.ensures in
+    let all = declares m.accepted m.vocabulary c.proposition_pairs.ensures.is c.header.ensures.is c.pair_offset-goal.ensures c.self.invariant
+    c.args.list c.new-noted.ensures.0 (ap (λ n. n.bytes.now) c.new-noted.ensures.1 ∙ m.bytes) (ap (λ n. n.vocabulary) c.new-noted.ensures.1)
+    (rw m.bytes at c.put_term_uses.ensures) (rw m.bytes at c.put_entries.ensures) in
     rw (← c.self.view_is, c.copy_from_slice.ensures.after, c.declared-all.ensures.0) all

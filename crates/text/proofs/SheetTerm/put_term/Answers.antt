@@ -4,11 +4,11 @@ use Rattle.text.proofs.SheetTerm.put_term.Goals as goal
 
 pub put_term-requires : goal.put_term-requires
 put_term-requires g c =
-    let v = c.vocabulary-v.ensures in
-    rw c.bytes-s.ensures.is (printable v.accepted v.is c.self.invariant (rw (← c.self.view_is) at c.requires))
+    let m = c.memory.ensures in
+    rw m.bytes (printable m.accepted m.vocabulary c.self.invariant (rw (← c.self.view_is) at c.requires))
 
 pub returns : goal.returns
 returns g c =
-    let v = c.vocabulary-v.ensures in
+    let m = c.memory.ensures in
     let held = c.self.inside in
-    rw (← c.self.view_is) (rw (term_shown v.accepted v.is c.args.style held.terms.now held.n) at (rw c.bytes-s.ensures.is at c.put_term.ensures))
+    rw (← c.self.view_is) (rw (term_shown m.accepted m.vocabulary c.args.style held.terms.now held.n) at (rw m.bytes at c.put_term.ensures))
