@@ -14,7 +14,6 @@ use output::sink::put_u16s;
 use output::{Sink, Writer};
 use renumbering::put_proposition;
 use sheet::AdmittedSheet;
-use vocabulary::name;
 
 // How many pieces were appended, and how long they are together. The memories for pairs and bytes stand beside it: of a struct that holds
 // a writer over each, the methods were proved, but where it ends nothing ties the two memories to what it held, as it does for one, and
@@ -57,11 +56,11 @@ fn append_name(
         (missing_below sheets.now.host.now sheets.now.donor.now (n + 1)) pairs.new text.new result }
 {
     let h = sheets.host.header();
-    let v = sheets.donor.vocabulary();
+    let donor = sheets.donor.memory();
     if sheets.numbers[n] as usize != h.names + before.count {
         return before;
     }
-    let piece = name(sheets.donor.bytes(), v, n);
+    let piece = donor.name(n);
     let mut behind = Writer {
         out: text,
         to: before.length,

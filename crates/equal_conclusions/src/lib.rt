@@ -72,17 +72,15 @@ fn same_judgements(sheets: &NumberedSheets, x: Judgement, y: Judgement) -> bool
     requires { KnownJudgement (names sheets.now.host.now) x × KnownJudgement (names sheets.now.donor.now) y }
     ensures { result ≡ same_judgement sheets.now.host.now x sheets.now.donor.now y }
 {
-    let s = sheets.host.bytes();
-    let v = sheets.host.vocabulary();
-    let t = sheets.donor.bytes();
-    let w = sheets.donor.vocabulary();
-    if !vocabulary::same_name(s, v, x.name as usize, t, w, y.name as usize) {
+    let host = sheets.host.memory();
+    let donor = sheets.donor.memory();
+    if !host.same_name(x.name as usize, &donor, y.name as usize) {
         return false;
     }
     if x.unique_id != y.unique_id {
         return false;
     }
-    vocabulary::same_name(s, v, x.datatype as usize, t, w, y.datatype as usize)
+    host.same_name(x.datatype as usize, &donor, y.datatype as usize)
 }
 
 // Whether the conclusion of step k of the host and that of the donor's root are equal. One sheet's propositions are compared up to

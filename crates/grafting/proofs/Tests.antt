@@ -71,7 +71,7 @@ module _ (s t : List ℕ) (k room : ℕ) where
   open_grafted g is m = rw (g.is_open, merged_levels g, ← is) m
 
 -- the names of an accepted sheet with their index, and a map in which no number is stored yet
-pub indexed : {x : Index} {h : Sheet} → AcceptedSheet x.bytes.now h → x.v ≡ vocabulary_of h → x.slots.now ≡ index_of x.bytes.now → Indexed x
+pub indexed : {x : Index} {h : Sheet} → AcceptedSheet x.memory.bytes.now h → x.memory.vocabulary ≡ vocabulary_of h → x.slots.now ≡ index_of x.memory.bytes.now → Indexed x
 unfolding header_of
 indexed {x} {h} a is index =
     let has = its_header a in

@@ -22,6 +22,7 @@ use merged_sheet::merge;
 use name_index::{Index, SLOT_COUNT, build};
 use sheet::{AdmittedSheet, Sheet, SizedSheet, vocabulary};
 use steps::{Rule, premiss_count, rule_byte};
+use vocabulary::Memory;
 
 // The byte of the rule Sorry.
 const SORRY: u8 = Rule::Sorry as u8;
@@ -61,15 +62,17 @@ fn too_deep(host: &SizedSheet, k: usize, donor: &SizedSheet) -> bool
 }
 
 // The names of a sheet with their index, which is built in lent slots.
-fn index_names<'a, 's: 'a>(sheet: &AdmittedSheet<'s>, slots: &'a mut [u16; SLOT_COUNT]) -> Index<'a>
-    ensures is { result.bytes.now ≡ sheet.now }
+pub fn index_names<'a, 's: 'a>(
+    sheet: &AdmittedSheet<'s>,
+    slots: &'a mut [u16; SLOT_COUNT],
+) -> Index<'a>
+    ensures is { result.memory.bytes.now ≡ sheet.now }
     ensures indexed { Indexed result }
     ensures accepted { Accepted sheet.now }
 {
-    let s = sheet.bytes();
-    let v = sheet.vocabulary();
-    build(slots, s, v);
-    Index { bytes: s, v, slots }
+    let memory = sheet.memory();
+    build(slots, &memory);
+    Index { memory, slots }
 }
 
 // Stores the numbers that the host's names and the donor's have in the merged sheet. One index of the host's names serves both, so
@@ -161,7 +164,11 @@ fn graft_indexed(
         (graft host.now donor.now k (length out.old)) slots.old }
 {
     let m = graft_accepted(host, k, donor, out)?;
-    build(slots, out, vocabulary(m));
+    let merged = Memory {
+        bytes: out,
+        vocabulary: vocabulary(m),
+    };
+    build(slots, &merged);
     Ok(m.layout().end)
 }
 

@@ -17,9 +17,10 @@ ghost use Rattle.judgement.specs.Asked.{Known, held_term, may_check, ruled, Lowe
 use checkable::is_checkable;
 use checker::{State, Terms};
 use definitions::{Reason, Refusal};
+use grafting::index_names;
 use hypotheses::{are_free, assume, is_free, is_out};
 use merged_names::{IndexedSheets, fill_numbers};
-use name_index::{Index, SLOT_COUNT, build};
+use name_index::SLOT_COUNT;
 use number::pair_offset;
 use proof_term::NODE_LIMIT;
 use prop_numbers::{Made, NAMES, STOPS};
@@ -35,15 +36,8 @@ fn number_names(sheet: &AdmittedSheet, numbers: &mut [u16])
     requires { name_limit ≤ length numbers.old }
     ensures { Numbered sheet.now sheet.now (names sheet.now) numbers.new }
 {
-    let s = sheet.bytes();
-    let v = sheet.vocabulary();
     let mut slots = [0u16; SLOT_COUNT];
-    build(&mut slots, s, v);
-    let index = Index {
-        bytes: s,
-        v,
-        slots: &slots,
-    };
+    let index = index_names(sheet, &mut slots);
     let sheets = IndexedSheets {
         host: index,
         donor: index,

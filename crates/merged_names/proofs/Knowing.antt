@@ -28,13 +28,13 @@ found_none None e = refl
 found_none (Some j) e = absurd (let z : ◌≡◌ {A = ℕ} 0 1 = cc in omega arith)
 
 -- a name by the vocabulary is the sheet's
-pub its_name : {i : Index} → Indexed i → {x : Name} (n : ℕ) → x ≡ name_in i.bytes.now i.v n → x ≡ name_of i.bytes.now n
+pub its_name : {i : Index} → Indexed i → {x : Name} (n : ℕ) → x ≡ name_in i.memory.bytes.now i.memory.vocabulary n → x ≡ name_of i.memory.bytes.now n
 its_name a n e = e ∙ ap (λ (f : ℕ → Name). f n) a.are_names
 
 -- the index of a sheet answers as the plain search
 pub searched : {i : Index} → Indexed i → {r : Option ℕ} {x y : Name} → x ≡ y
-    → r ≡ (index.find (name_in i.bytes.now i.v) i.slots.now x) → r ≡ (plain_search (name_of i.bytes.now) (names i.bytes.now) y)
-searched {i} a {r} {x} {y} same e = e ∙ (rw (a.are_names, a.index, same) (sheet_agrees i.bytes.now y a.few))
+    → r ≡ (index.find (name_in i.memory.bytes.now i.memory.vocabulary) i.slots.now x) → r ≡ (plain_search (name_of i.memory.bytes.now) (names i.memory.bytes.now) y)
+searched {i} a {r} {x} {y} same e = e ∙ (rw (a.are_names, a.index, same) (sheet_agrees i.memory.bytes.now y a.few))
 
 -- what the donor's own index says of its name n
 module _ (d : List ℕ) (n : ℕ) {q : Option ℕ} (searched-there : q ≡ (plain_search (name_of d) (names d) (name_of d n))) where

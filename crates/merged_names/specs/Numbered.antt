@@ -4,17 +4,18 @@ use Rattle.definitions.specs.Sheet.{names, name_of, name_limit}
 use Rattle.definitions.specs.NameIndex.{index_of}
 use Rattle.definitions.specs.Graft.{renumbered}
 use Rattle.graft_laws.specs.Missing.{missing_below}
-use Rattle.vocabulary.specs.Vocabulary.{name_in, Names}
+use Rattle.vocabulary.specs.Memory as vocabulary
+use Rattle.vocabulary.specs.Memory.{HasName}
 use Rattle.name_index.specs.declared.Index.{Index}
 use Rattle.merged_names.specs.declared.Numbering.{Numbering}
 
 -- the names of a sheet where its vocabulary says, with their index
 pub record Indexed (x : Index) : Type 0 where
-  pub named : (i : ℕ) → i < names x.bytes.now → Names x.bytes.now x.v i
-  pub are_names : name_in x.bytes.now x.v ≡ name_of x.bytes.now
-  pub count : x.v.name_count ≡ names x.bytes.now
-  pub few : names x.bytes.now ≤ name_limit
-  pub index : x.slots.now ≡ index_of x.bytes.now
+  pub named : (i : ℕ) → i < names x.memory.bytes.now → HasName x.memory i
+  pub are_names : vocabulary.name_of x.memory ≡ name_of x.memory.bytes.now
+  pub count : x.memory.vocabulary.name_count ≡ names x.memory.bytes.now
+  pub few : names x.memory.bytes.now ≤ name_limit
+  pub index : x.slots.now ≡ index_of x.memory.bytes.now
 
 -- there is room for a number of each name, and those of the names below n are stored
 pub record Numbered (h d : List ℕ) (n : ℕ) (numbers : List ℕ) : Type 0 where

@@ -9,7 +9,6 @@ ghost use Rattle.graft_laws.specs.Missing.{missing_below};
 ghost use Rattle.merged_names.specs.Numbered.{Indexed, Numbered, Known, NumberedTo, SameMemory};
 
 use name_index::Index;
-use vocabulary::name;
 
 // The names of a host and of a donor, each by the index of its own sheet.
 #[derive(Clone, Copy)]
@@ -31,11 +30,11 @@ struct Numbering<'a> {
 impl Numbering<'_> {
     // The number that donor name n has already: the host's of equal bytes, or that of an earlier name of the donor. A new name has none.
     fn known_number(&self, sheets: &IndexedSheets, n: usize) -> Option<usize>
-        requires below { n < names sheets.now.donor.bytes.now }
-        requires numbered { Numbered sheets.now.host.bytes.now sheets.now.donor.bytes.now n self.now.numbers.now }
-        ensures { Known sheets.now.host.bytes.now sheets.now.donor.bytes.now n result }
+        requires below { n < names sheets.now.donor.memory.bytes.now }
+        requires numbered { Numbered sheets.now.host.memory.bytes.now sheets.now.donor.memory.bytes.now n self.now.numbers.now }
+        ensures { Known sheets.now.host.memory.bytes.now sheets.now.donor.memory.bytes.now n result }
     {
-        let bytes = name(sheets.donor.bytes, sheets.donor.v, n);
+        let bytes = sheets.donor.memory.name(n);
         if let Some(i) = sheets.host.find(bytes) {
             return Some(i);
         }
@@ -48,13 +47,14 @@ impl Numbering<'_> {
 
     // Stores the number of donor name n.
     fn number_name(&mut self, sheets: &IndexedSheets, n: usize)
-        requires below { n < names sheets.now.donor.bytes.now }
-        requires so_far { NumberedTo sheets.now.host.bytes.now sheets.now.donor.bytes.now n self.old }
-        ensures so_far { NumberedTo sheets.now.host.bytes.now sheets.now.donor.bytes.now (n + 1) self.new }
+        requires below { n < names sheets.now.donor.memory.bytes.now }
+        requires so_far { NumberedTo sheets.now.host.memory.bytes.now sheets.now.donor.memory.bytes.now n self.old }
+        ensures so_far { NumberedTo sheets.now.host.memory.bytes.now sheets.now.donor.memory.bytes.now
+            (n + 1) self.new }
         ensures same_memory { SameMemory self.old self.new }
     {
         let Some(known) = self.known_number(sheets, n) else {
-            self.numbers[n] = (sheets.host.v.name_count + self.missing) as u16;
+            self.numbers[n] = (sheets.host.memory.vocabulary.name_count + self.missing) as u16;
             self.missing += 1;
             return;
         };
@@ -65,16 +65,16 @@ impl Numbering<'_> {
 // Stores the number of each donor name, and answers how many of them are missing in the host. The numbers have memory of fixed size, one
 // for each name that a sheet may have, and `Numbered` says how many are stored.
 pub fn fill_numbers(sheets: &IndexedSheets, numbers: &mut [u16]) -> usize
-    requires { Numbered sheets.now.host.bytes.now sheets.now.donor.bytes.now 0 numbers.old }
-    ensures value { result ≡ length (missing sheets.now.host.bytes.now sheets.now.donor.bytes.now) }
-    ensures numbered { Numbered sheets.now.host.bytes.now sheets.now.donor.bytes.now
-        (names sheets.now.donor.bytes.now) numbers.new }
+    requires { Numbered sheets.now.host.memory.bytes.now sheets.now.donor.memory.bytes.now 0 numbers.old }
+    ensures value { result ≡ length (missing sheets.now.host.memory.bytes.now sheets.now.donor.memory.bytes.now) }
+    ensures numbered { Numbered sheets.now.host.memory.bytes.now sheets.now.donor.memory.bytes.now
+        (names sheets.now.donor.memory.bytes.now) numbers.new }
 {
     let mut numbering = Numbering {
         numbers,
         missing: 0,
     };
-    for n in 0..sheets.donor.v.name_count {
+    for n in 0..sheets.donor.memory.vocabulary.name_count {
         numbering.number_name(sheets, n);
     }
     numbering.missing

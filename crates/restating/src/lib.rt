@@ -174,8 +174,7 @@ fn restate_indexed(
         (restate_answer sheet.now (given_of given) (length out.old)) slots.old }
 {
     let length = restate_accepted(sheet, given, out)?;
-    let admitted = sheet.admitted();
-    build(slots, admitted.bytes(), admitted.vocabulary());
+    build(slots, &sheet.admitted().memory());
     Ok(length)
 }
 

@@ -40,6 +40,7 @@ use restating::Given;
 use sheet::{AdmittedSheet, check_header, vocabulary};
 use sheet_term::{TERM_NUMBERS, sheet_term};
 use text::{sheet_text_length, text};
+use vocabulary::Memory;
 
 // The version of a number, or 21, which names no step of any sheet. A `TryFrom` would be this match with this contract, and stand in
 // `definitions`, where the type is; a number is turned into a version in this crate alone.
@@ -292,7 +293,7 @@ pub fn name_index(s: &[u8], slots: &mut [u16; SLOT_COUNT]) -> Result<usize, Loca
 {
     let checked = AdmittedSheet::new(s);
     let sheet = checked.map_err(|refusal| locate(s, refusal))?;
-    name_index::build(slots, s, sheet.vocabulary());
+    name_index::build(slots, &sheet.memory());
     Ok(SLOT_COUNT)
 }
 
@@ -305,10 +306,10 @@ pub fn find_name(s: &[u8], slots: &[u16; SLOT_COUNT], name: &[u8]) -> Result<Opt
 {
     let checked = check_header(s);
     let h = checked.map_err(|refusal| locate(s, refusal))?;
-    let index = Index {
+    let memory = Memory {
         bytes: s,
-        v: vocabulary(h),
-        slots,
+        vocabulary: vocabulary(h),
     };
+    let index = Index { memory, slots };
     Ok(index.find(name))
 }

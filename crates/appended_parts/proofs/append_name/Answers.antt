@@ -19,18 +19,18 @@ host c = beside_header c.header-h.ensures.is c.header-h.ensures.accepted
 
 pub offset_bounds-sheets-n : goal.offset_bounds-sheets-n
 offset_bounds-sheets-n c =
-    omega (arith, has_numbers (with_header c.vocabulary-v.ensures.accepted) _ c.args.sheets.now.numbered.room, c.requires.n_bound)
+    omega (arith, has_numbers (with_header c.memory-donor.ensures.accepted) _ c.args.sheets.now.numbered.room, c.requires.n_bound)
 
 pub bounds-sheets-n : goal.bounds-sheets-n
 bounds-sheets-n c =
-    omega (arith, has_numbers (with_header c.vocabulary-v.ensures.accepted) _ c.args.sheets.now.numbered.room, c.requires.n_bound)
+    omega (arith, has_numbers (with_header c.memory-donor.ensures.accepted) _ c.args.sheets.now.numbered.room, c.requires.n_bound)
 
 pub overflow_add-h : goal.overflow_add-h
 unfolding name_limit
 overflow_add-h c =
     let record { n_bound = below; appends = so } = c.requires in
     let few = few_names (host (goal.at.overflow_add-h c).After-header-h) in
-    omega (arith, few, (name_room (with_header c.vocabulary-v.ensures.accepted) c.args.sheets.now.host.now c.args.n below).0, so.count)
+    omega (arith, few, (name_room (with_header c.memory-donor.ensures.accepted) c.args.sheets.now.host.now c.args.n below).0, so.count)
 
 pub returns-then-sheets-n : goal.returns-then-sheets-n
 returns-then-sheets-n c =
@@ -41,19 +41,19 @@ returns-then-sheets-n c =
 
 pub name-piece-requires : goal.name-piece-requires
 name-piece-requires c =
-    let v = c.vocabulary-v.ensures in
-    rw c.bytes.ensures.is (name_here (with_header v.accepted) v.is c.requires.n_bound)
+    let v = c.memory-donor.ensures in
+    rw v.bytes (name_here (with_header v.accepted) v.vocabulary c.requires.n_bound)
 
 -- the piece is the name, and fits
 piece_is : (c : After-name-piece) → c.name-piece.result.now ≡ name_of c.args.sheets.now.donor.now c.args.n
 piece_is c =
-    let v = c.vocabulary-v.ensures in
-    rw c.bytes.ensures.is at c.name-piece.ensures ∙ name_is (with_header v.accepted) v.is _
+    let v = c.memory-donor.ensures in
+    rw v.bytes at c.name-piece.ensures ∙ name_is (with_header v.accepted) v.vocabulary _
 
 addable : (c : After-name-piece) → Addable c.header-h.result.text_length c.args.before (length c.name-piece.result.now)
 addable c =
     let record { n_bound = below; appends = so } = c.requires in
-    name_addable (with_header c.vocabulary-v.ensures.accepted) _ _ below (text_within (host (goal.at.After-name-piece c).After-header-h)) so (piece_is c)
+    name_addable (with_header c.memory-donor.ensures.accepted) _ _ below (text_within (host (goal.at.After-name-piece c).After-header-h)) so (piece_is c)
 
 pub append_pair-requires : goal.append_pair-requires
 append_pair-requires c = addable (goal.at.append_pair-requires c).After-name-piece

@@ -10,17 +10,17 @@ use Rattle.equal_conclusions.proofs.same_judgements.Goals.{After-same_name}
 pub same_name-requires : goal.same_name-requires
 same_name-requires c =
     let (x, y) = c.requires in
-    let v = c.vocabulary-v.ensures in
-    let w = c.vocabulary-w.ensures in
-    rw (c.bytes-s.ensures.is, c.bytes-t.ensures.is) (name_here (with_header v.accepted) v.is x.object, name_here (with_header w.accepted) w.is y.object)
+    let v = c.memory-host.ensures in
+    let w = c.memory-donor.ensures in
+    rw (v.bytes, w.bytes) (name_here (with_header v.accepted) v.vocabulary x.object, name_here (with_header w.accepted) w.vocabulary y.object)
 
 -- what the first question says
 objects : (c : After-same_name) → c.same_name.result ≡ eq_name (name_of c.args.sheets.now.host.now c.args.x.name) (name_of c.args.sheets.now.donor.now c.args.y.name)
 objects c =
-    let v = c.vocabulary-v.ensures in
-    let w = c.vocabulary-w.ensures in
-    rw (c.bytes-s.ensures.is, c.bytes-t.ensures.is) at c.same_name.ensures
-    ∙ ap₂ eq_name (name_is (with_header v.accepted) v.is _) (name_is (with_header w.accepted) w.is _)
+    let v = c.memory-host.ensures in
+    let w = c.memory-donor.ensures in
+    rw (v.bytes, w.bytes) at c.same_name.ensures
+    ∙ ap₂ eq_name (name_is (with_header v.accepted) v.vocabulary _) (name_is (with_header w.accepted) w.vocabulary _)
 
 pub returns-then-not-same_name : goal.returns-then-not-same_name
 returns-then-not-same_name c = other_object _ _ _ _ (sym (objects (goal.at.returns-then-not-same_name c).After-same_name) ∙ c.if-not-same_name.true)
@@ -32,14 +32,14 @@ returns-then-x-y c =
 pub same_name-requires-2 : goal.same_name-requires-2
 same_name-requires-2 c =
     let (x, y) = c.requires in
-    let v = c.vocabulary-v.ensures in
-    let w = c.vocabulary-w.ensures in
-    rw (c.bytes-s.ensures.is, c.bytes-t.ensures.is) (name_here (with_header v.accepted) v.is x.datatype, name_here (with_header w.accepted) w.is y.datatype)
+    let v = c.memory-host.ensures in
+    let w = c.memory-donor.ensures in
+    rw (v.bytes, w.bytes) (name_here (with_header v.accepted) v.vocabulary x.datatype, name_here (with_header w.accepted) w.vocabulary y.datatype)
 
 pub returns : goal.returns
 returns c =
-    let v = c.vocabulary-v.ensures in
-    let w = c.vocabulary-w.ensures in
+    let v = c.memory-host.ensures in
+    let w = c.memory-donor.ensures in
     by_datatype _ _ _ _ (sym (objects (goal.at.returns c).After-same_name) ∙ c.if-not-same_name.false) c.if-x-y.false
-    (rw (c.bytes-s.ensures.is, c.bytes-t.ensures.is) at c.same_name-2.ensures
-    ∙ ap₂ eq_name (name_is (with_header v.accepted) v.is _) (name_is (with_header w.accepted) w.is _))
+    (rw (v.bytes, w.bytes) at c.same_name-2.ensures
+    ∙ ap₂ eq_name (name_is (with_header v.accepted) v.vocabulary _) (name_is (with_header w.accepted) w.vocabulary _))

@@ -6,31 +6,31 @@ use Rattle.restating.proofs.Answers.{vocabulary-within, few_names, built}
 use Rattle.sheet.specs.Header.{header_of}
 use Rattle.grafting.proofs.Tests.{indexed}
 use Rattle.grafting.proofs.index_names.Goals as goal
-use Rattle.grafting.proofs.index_names.Goals.{After-vocabulary-v}
+use Rattle.grafting.proofs.index_names.Goals.{After-memory-memory}
 
 -- the sheet, the bytes that the index is of
-here : (c : After-vocabulary-v) → AcceptedSheet c.bytes-s.result.now (header_of c.args.sheet.now)
-here c = rw c.bytes-s.ensures.is (with_header c.vocabulary-v.ensures.accepted)
+here : (c : After-memory-memory) → AcceptedSheet c.memory-memory.result.bytes.now (header_of c.args.sheet.now)
+here c = rw c.memory-memory.ensures.bytes (with_header c.memory-memory.ensures.accepted)
 
 pub build-requires : goal.build-requires
 unfolding slot_count
 build-requires c =
-    let sheet = here (goal.at.build-requires c).After-vocabulary-v in
-    let v = c.vocabulary-v.ensures.is in
+    let sheet = here (goal.at.build-requires c).After-memory-memory in
+    let v = c.memory-memory.ensures.vocabulary in
     record { slots_len = (search rules, vocabulary-within sheet v); name_count_bound = few_names sheet v }
 
 pub invariant_of-result : goal.invariant_of-result
 unfolding slot_count
 invariant_of-result c =
-    let sheet = here (goal.at.invariant_of-result c).After-vocabulary-v in
-    record { within = vocabulary-within sheet c.vocabulary-v.ensures.is; whole = search rules }
+    let sheet = here (goal.at.invariant_of-result c).After-memory-memory in
+    record { within = vocabulary-within sheet c.memory-memory.ensures.vocabulary; whole = search rules }
 
 pub returns : goal.returns
 returns c =
-    let sheet = here (goal.at.returns c).After-vocabulary-v in
-    let v = c.vocabulary-v.ensures.is in
+    let sheet = here (goal.at.returns c).After-memory-memory in
+    let v = c.memory-memory.ensures.vocabulary in
     record {
-      is = c.bytes-s.ensures.is;
+      is = c.memory-memory.ensures.bytes;
       indexed = indexed sheet v (built sheet v c.build.ensures);
-      accepted = c.vocabulary-v.ensures.accepted;
+      accepted = c.memory-memory.ensures.accepted;
     }

@@ -1,5 +1,6 @@
 -- A step that is there has its column among the records; for one that is not, the definition gives 0.
 use mathlib.Core.Path.{◌≡◌, sym}
+use native.Mathlib.Omega.{arith}
 use Rattle.steps.specs.StepAt.{step_at}
 use Rattle.sheet.specs.Header.{header_of}
 use Rattle.sheet.proofs.Stages.{stage_accepted, refused_not_accepted}
@@ -19,7 +20,8 @@ returns-then-h-k c =
     sym (no_step c.requires (is_header (goal.at.returns-then-h-k c).In-Ok) _ c.if-h-k.true)
 
 pub invariant_of-sheet : goal.invariant_of-sheet
-invariant_of-sheet c = record { headed = read_header c.requires (is_header (goal.at.invariant_of-sheet c).In-Ok) }
+invariant_of-sheet c =
+    record { headed = read_header c.requires (is_header (goal.at.invariant_of-sheet c).In-Ok); fits = λ i. omega (arith, c.type_inv.s i) }
 
 pub step_at-step-requires : goal.step_at-step-requires
 step_at-step-requires c =

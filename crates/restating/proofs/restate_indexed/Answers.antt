@@ -13,8 +13,8 @@ returns-in_err-length c =
 pub build-requires : goal.build-requires
 unfolding slot_count
 build-requires c =
-    let record { is = is; accepted = accepted } = c.vocabulary.ensures in
-    rw c.bytes.ensures.is
+    let record { bytes = bytes; vocabulary = is; accepted = accepted } = c.memory.ensures in
+    rw bytes
     record {
       slots_len = (search rules, vocabulary-within (with_header accepted) is);
       name_count_bound = few_names (with_header accepted) is;
@@ -24,8 +24,8 @@ pub returns : goal.returns
 returns c =
     let written = c.in_ok-length.was in
     let answer = c.restate_accepted.ensures in
-    let record { is = is; accepted = accepted } = c.vocabulary.ensures in
+    let record { bytes = bytes; vocabulary = is; accepted = accepted } = c.memory.ensures in
     record {
       fills = told answer written;
-      slots_after = slots-built _ _ _ answer written _ (rw c.admitted-admitted.ensures.is at (built (with_header accepted) is (rw c.bytes.ensures.is at c.build.ensures)));
+      slots_after = slots-built _ _ _ answer written _ (rw c.admitted.ensures.is at (built (with_header accepted) is (rw bytes at c.build.ensures)));
     }

@@ -12,7 +12,7 @@ use Rattle.located.proofs.AfterHeader.{admission_after_header}
 use Rattle.located.proofs.Back.{back, mapped, accepted_back, refused_back}
 use Rattle.skriduhol.proofs.Names.{names_fit, index_filled, index_refused}
 use Rattle.skriduhol.proofs.name_index.Goals as goal
-use Rattle.skriduhol.proofs.name_index.Goals.{After-map_err, In_ok-sheet, In_err-sheet, After-vocabulary}
+use Rattle.skriduhol.proofs.name_index.Goals.{After-map_err, In_ok-sheet, In_err-sheet, After-memory}
 
 located_here : (c : After-map_err) → c.map_err.result ≡ back c.args.s.now c.new-checked.result
 located_here c = mapped _ c.new-checked.result c.map_err.ensures.cases (λ x l e p. search rules)
@@ -21,9 +21,11 @@ is_admitted : (c : In_ok-sheet) → (c.in_ok-sheet.sheet ≡ c.args.s.now) × Ac
 is_admitted c =
     rw (accepted_back _ c.new-checked.result (located_here (goal.at.In_ok-sheet c).After-map_err) c.in_ok-sheet.was) at c.new-checked.ensures
 
--- the vocabulary is that of the bytes
-its_vocabulary : (c : After-vocabulary) → c.vocabulary.result ≡ vocabulary_of (header_of c.args.s.now)
-its_vocabulary c = rw (is_admitted (goal.at.After-vocabulary c).In_ok-sheet).0 at c.vocabulary.ensures.is
+-- the memory has these bytes, by their vocabulary
+its_memory : (c : After-memory) → (c.memory.result.bytes.now ≡ c.args.s.now) × (c.memory.result.vocabulary ≡ vocabulary_of (header_of c.args.s.now))
+its_memory c =
+    let record { bytes = bytes; vocabulary = is } = c.memory.ensures in
+    rw (is_admitted (goal.at.After-memory c).In_ok-sheet).0 at (bytes, is)
 
 pub map_err-requires : goal.map_err-requires
 map_err-requires c = λ r e. let after = admission_after_header _ (rw e at c.new-checked.ensures) in search rules
@@ -39,11 +41,13 @@ pub build-requires : goal.build-requires
 unfolding slot_count
 build-requires c =
     let sheet = (is_admitted (goal.at.build-requires c).In_ok-sheet).1 in
-    rw (its_vocabulary (goal.at.build-requires c).After-vocabulary)
+    let (bytes, is) = its_memory (goal.at.build-requires c).After-memory in
+    rw (bytes, is)
     record { slots_len = (omega arith, within (has_header sheet.sheet)); name_count_bound = names_fit (with_header sheet) }
 
 pub returns : goal.returns
 unfolding slot_count
 returns c =
     let sheet = (is_admitted (goal.at.returns c).In_ok-sheet).1 in
-    index_filled (with_header sheet) (omega arith) (rw (its_vocabulary (goal.at.returns c).After-vocabulary) at c.build.ensures)
+    let (bytes, is) = its_memory (goal.at.returns c).After-memory in
+    index_filled (with_header sheet) (omega arith) (rw (bytes, is) at c.build.ensures)

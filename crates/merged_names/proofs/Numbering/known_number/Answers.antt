@@ -6,7 +6,7 @@ use Rattle.merged_names.proofs.Numbering.known_number.Goals as goal
 use Rattle.merged_names.proofs.Numbering.known_number.Goals.{After-name-bytes}
 
 -- the bytes are the donor's name
-bytes : (c : After-name-bytes) → c.name-bytes.result.now ≡ name_of c.args.sheets.now.donor.bytes.now c.args.n
+bytes : (c : After-name-bytes) → c.name-bytes.result.now ≡ name_of c.args.sheets.now.donor.memory.bytes.now c.args.n
 bytes c = its_name c.args.sheets.now.donor_indexed _ c.name-bytes.ensures
 
 pub returns-in-Some : goal.returns-in-Some

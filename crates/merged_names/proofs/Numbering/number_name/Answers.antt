@@ -9,11 +9,11 @@ use Rattle.merged_names.proofs.Numbering.number_name.Goals as goal
 use Rattle.merged_names.proofs.Numbering.number_name.Goals.{In_default}
 
 -- the next number is a number of a sheet
-small : (c : In_default) → c.args.sheets.now.host.v.name_count + c.args.self.now.missing < 65536
+small : (c : In_default) → c.args.sheets.now.host.memory.vocabulary.name_count + c.args.self.now.missing < 65536
 unfolding name_limit
 small c =
     let sheets = c.args.sheets.now in
-    omega (arith, sheets.host_indexed.count, sheets.host_indexed.few, sheets.donor_indexed.few, c.requires.below, c.requires.so_far.missing, few_below sheets.host.bytes.now sheets.donor.bytes.now c.args.n)
+    omega (arith, sheets.host_indexed.count, sheets.host_indexed.few, sheets.donor_indexed.few, c.requires.below, c.requires.so_far.missing, few_below sheets.host.memory.bytes.now sheets.donor.memory.bytes.now c.args.n)
 
 pub overflow_add-self : goal.overflow_add-self
 overflow_add-self c = omega (arith, small (goal.at.overflow_add-self c).In_default)
