@@ -4,15 +4,14 @@
 
 mod memory;
 
-ghost use Rattle.std.specs.Prelude.{◌≡◌, ◌+◌, ◌≤◌, length, take, drop};
-ghost use Rattle.definitions.specs.Name.{eq_name, compare_name};
+ghost use Rattle.std.specs.Prelude.{◌≡◌};
+ghost use Rattle.definitions.specs.Name.{eq_name};
 ghost use Rattle.vocabulary.specs.Memory.{pairs_of, text_of, code_of, name_of, LiesWithin, HasName, PropositionAt};
-ghost use Rattle.vocabulary.specs.Vocabulary.{pairs_in, text_in, code_in, name_in, Within, Names, SomeProposition, ShapeIn};
+ghost use Rattle.vocabulary.specs.Vocabulary.{ShapeIn};
 
 pub use memory::Memory;
 use number::{Marked, PAIR_SIZE};
 use prefix_code::{Shape, shape_at};
-use std::cmp::Ordering;
 
 // A memory has at most so many names.
 pub const NAME_LIMIT: usize = 512;
@@ -87,75 +86,4 @@ impl<'m> Memory<'m> {
     {
         shape_at(self.code(), at)
     }
-}
-
-// The names' pairs.
-#[tactic(auto, unfolding(crate::specs::Vocabulary::pairs_in, definitions::specs::Sheet::pair_size))]
-pub fn pairs_of(bytes: &[u8], v: Vocabulary) -> &[u8]
-    requires { Within bytes.now v }
-    ensures { result.now ≡ pairs_in bytes.now v }
-{
-    &bytes[v.pairs..v.pairs + PAIR_SIZE * v.name_count]
-}
-
-// Their text.
-#[tactic(auto, unfolding(crate::specs::Vocabulary::text_in))]
-pub fn text_of(bytes: &[u8], v: Vocabulary) -> &[u8]
-    requires { Within bytes.now v }
-    ensures { result.now ≡ text_in bytes.now v }
-{
-    &bytes[v.text..v.text + v.text_length]
-}
-
-// The code of the propositions.
-#[tactic(auto, unfolding(crate::specs::Vocabulary::code_in))]
-pub fn code_of(bytes: &[u8], v: Vocabulary) -> &[u8]
-    requires { Within bytes.now v }
-    ensures { result.now ≡ code_in bytes.now v }
-{
-    &bytes[v.code..v.code + v.code_length]
-}
-
-// The bytes of a name.
-#[tactic(auto, unfolding(crate::specs::Vocabulary::name_in))]
-pub fn name(bytes: &[u8], v: Vocabulary, i: usize) -> &[u8]
-    requires { Names bytes.now v i }
-    ensures { result.now ≡ name_in bytes.now v i }
-{
-    let names = Marked {
-        pairs: pairs_of(bytes, v),
-        bytes: text_of(bytes, v),
-    };
-    names.piece(i)
-}
-
-// How a name of one memory stands to a name of another.
-pub fn compare_names(
-    a: &[u8],
-    v: Vocabulary,
-    i: usize,
-    b: &[u8],
-    w: Vocabulary,
-    j: usize,
-) -> Ordering
-    requires { Names a.now v i × Names b.now w j }
-    ensures { result ≡ compare_name (name_in a.now v i) (name_in b.now w j) }
-{
-    identifier::compare_names(name(a, v, i), name(b, w, j))
-}
-
-// Whether a name of one memory and a name of another have the same bytes.
-pub fn same_name(a: &[u8], v: Vocabulary, i: usize, b: &[u8], w: Vocabulary, j: usize) -> bool
-    requires { Names a.now v i × Names b.now w j }
-    ensures { result ≡ eq_name (name_in a.now v i) (name_in b.now w j) }
-{
-    identifier::same_name(name(a, v, i), name(b, w, j))
-}
-
-// The shape of the proposition at an offset of the code.
-pub fn shape(bytes: &[u8], v: Vocabulary, at: usize) -> Shape
-    requires { SomeProposition bytes.now v at }
-    ensures { ShapeIn bytes.now v at result }
-{
-    shape_at(code_of(bytes, v), at)
 }
