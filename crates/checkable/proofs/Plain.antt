@@ -2,7 +2,7 @@
 use Prim.Native.Nat.{ℕ, ◌+◌, ◌≤◌, ◌<◌}
 use mathlib.Core.Path.{◌≡◌, refl, sym, ap, ◌∙◌}
 use mathlib.Core.Bool.{Bool, true, false, ◌&&◌}
-use mathlib.Core.List.{List, [], ◌∷◌, ◌++◌}
+use mathlib.Core.List.{List, [], ◌∷◌, ◌++◌, flat_map}
 use native.Mathlib.Omega.{arith}
 use lib.ListN.{length, drop, get_or, length-append, length-drop}
 use Rattle.definitions.specs.Prop.{Prop, True, False, Binary, Atom, Quantified, PropParameter, connective_byte, Quantifier}
@@ -15,7 +15,9 @@ use Rattle.prefix_code.proofs.Positions.{extent, byte_at}
 use Rattle.prefix_code.proofs.Heads.{head_bytes, atom_bytes, quantified_bytes, connective_byte_lem, quantifier_byte_lem}
 use Rattle.prefix_code.proofs.Propositions.{headed}
 use Rattle.renumbering.specs.Renumbered.{Whole}
-use Rattle.renumbering.proofs.Rows.{head_of, parts, row, RowAt, FirstHead, first_head, whole_row}
+use Rattle.prefix_code.specs.Row.{encode_row}
+use Rattle.prefix_code.proofs.Rows.{head_of, parts}
+use Rattle.renumbering.proofs.Rows.{RowAt, FirstHead, first_head, whole_row}
 use Rattle.checkable.specs.Plain.{is_plain_head, SomeParameters, SomeHead}
 
 module _ (names : ℕ) (before : List ℕ) (at : ℕ) where
@@ -119,14 +121,14 @@ module _ {names : ℕ} {code : List ℕ} {i : ℕ} (w : Looking names code i) (l
   pub looking_head : Whole names code → SomeHead code i
   looking_head v =
       let (ps, f, same) = ahead v.value v.codable v.coded in
-      record { names = names; value = head_of f.proposition; rest = row (parts f.proposition ++ f.others); stands = f.stands }
+      record { names = names; value = head_of f.proposition; rest = encode_row (parts f.proposition ++ f.others); stands = f.stands }
 
   pub looking_ends : Whole names code → {j : ℕ} → Ends (head_coding names) code i j → (j ≤ length code) × (i < j)
   unfolding Stands
   looking_ends v {j} ends =
       let (ps, f, same) = ahead v.value v.codable v.coded in
-      let here = ends.found (head_of f.proposition) (row (parts f.proposition ++ f.others)) f.stands in
-      let within : j ≤ length code = omega (arith, here, extent code i (encode_head (head_of f.proposition)) (row (parts f.proposition ++ f.others)) w.inside f.stands.1) in
+      let here = ends.found (head_of f.proposition) (encode_row (parts f.proposition ++ f.others)) f.stands in
+      let within : j ≤ length code = omega (arith, here, extent code i (encode_head (head_of f.proposition)) (encode_row (parts f.proposition ++ f.others)) w.inside f.stands.1) in
       (within, (headed names code i j ends within).further)
 
   module _ {r : Bool} (plain : (names : ℕ) (h : Head) (rest : List ℕ) → Stands (head_coding names) code i h rest → r ≡ is_plain_head h) where
@@ -134,7 +136,7 @@ module _ {names : ℕ} {code : List ℕ} {i : ℕ} (w : Looking names code i) (l
     pub looking_stop : r ≡ false → (p : Prop ℕ) → Codable names p → code ≡ encode p → false ≡ is_quantifier_free p
     looking_stop other p g e =
         let (ps, f, same) = ahead p g e in
-        let head = plain names (head_of f.proposition) (row (parts f.proposition ++ f.others)) f.stands in
+        let head = plain names (head_of f.proposition) (encode_row (parts f.proposition ++ f.others)) f.stands in
         let free : is_quantifier_free f.proposition ≡ false = free_parts f.proposition ∙ ap (λ (b : Bool). b && all_free (parts f.proposition)) (sym head ∙ other) in
         sym (same ∙ ap all_free f.is ∙ ap (λ (b : Bool). b && all_free f.others) free)
 
@@ -145,7 +147,7 @@ module _ {names : ℕ} {code : List ℕ} {i : ℕ} (w : Looking names code i) (l
       left = λ p g e.
           let (ps, f, same) = ahead p g e in
           let q = f.proposition in
-          let rest = row (parts q ++ f.others) in
+          let rest = encode_row (parts q ++ f.others) in
           let head = plain names (head_of q) rest f.stands in
           let here = ends.found (head_of q) rest f.stands in
           let free : is_quantifier_free q ≡ all_free (parts q) = free_parts q ∙ ap (λ (b : Bool). b && all_free (parts q)) (sym head ∙ is) in
@@ -154,9 +156,9 @@ module _ {names : ℕ} {code : List ℕ} {i : ℕ} (w : Looking names code i) (l
 
 -- nothing is left
 pub looking_end : {names : ℕ} {code : List ℕ} {i : ℕ} → Looking names code i → length code ≤ i → (p : Prop ℕ) → Codable names p → code ≡ encode p → true ≡ is_quantifier_free p
-unfolding row
+unfolding flat_map
 looking_end {names} {code} {i} w l p g e = let (ps, r, same) = w.left p g e in sym (same ∙ go ps r)
   where
     go : (ps : List (Prop ℕ)) → RowAt names code i ps → all_free ps ≡ true
     go [] r = refl
-    go (q ∷ qs) r = absurd (omega (arith, length-drop i code, ap length r.coded, length-append (encode q) (row qs), code_nonempty q))
+    go (q ∷ qs) r = absurd (omega (arith, length-drop i code, ap length r.coded, length-append (encode q) (encode_row qs), code_nonempty q))

@@ -4,6 +4,7 @@ pub mod Runs
 pub mod Parameters
 pub mod Heads
 pub mod Propositions
+pub mod Rows
 pub mod Forms
 pub mod Depth
 pub mod Whole

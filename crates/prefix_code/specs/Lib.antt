@@ -3,3 +3,4 @@ pub mod Scan
 pub mod Head
 pub mod PropAt
 pub mod Shape
+pub mod Row

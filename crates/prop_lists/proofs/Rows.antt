@@ -5,37 +5,25 @@ use mathlib.Core.List.{List, [], ◌∷◌, ◌++◌, append_assoc, append-nil, 
 use native.Mathlib.Omega.{arith}
 use lib.ListN.{length, drop, length-append, length-drop}
 use lib.Seq.{take_at}
+use Rattle.std.proofs.lemmas.Grind.{flat_map-append}
 use Rattle.definitions.specs.declared.TermList.{TermList}
 use Rattle.definitions.specs.declared.TermList.TheVariants.{Atoms, Datatypes}
 use Rattle.definitions.specs.Prop.{Prop, AtomUse, True, False, Binary, Atom, Quantified, get_atoms, get_datatypes}
-use Rattle.definitions.specs.Code.{followed_by, ◌>>=◌, byte, proposition, u16, encode, Codable}
+use Rattle.definitions.specs.Code.{followed_by, ◌>>=◌, byte, proposition, encode}
 use Rattle.definitions.proofs.PrefixCode.{code_nonempty, read_encode}
 use Rattle.prefix_code.specs.Scan.{Stands, At, Scanned}
-use Rattle.prefix_code.specs.PropAt.{prop_at, Present}
-use Rattle.prefix_code.specs.Head.{Head, TrueHead, FalseHead, BinaryHead, AtomHead, QuantifiedHead, encode_head, CodableHead}
+use Rattle.prefix_code.specs.PropAt.{prop_at}
+use Rattle.prefix_code.specs.Head.{Head, TrueHead, FalseHead, BinaryHead, AtomHead, QuantifiedHead, encode_head}
+use Rattle.prefix_code.specs.Row.{encode_row, CodableRow, row_coding}
 use Rattle.prefix_code.proofs.Positions.{after, extent}
 use Rattle.prefix_code.proofs.Heads.{HeadAt}
 use Rattle.prefix_code.proofs.Forms.{inside_at}
-use Rattle.prefix_code.proofs.Reading.{inside, prop_at_lem, present}
+use Rattle.prefix_code.proofs.Reading.{inside}
+use Rattle.prefix_code.proofs.Rows.{head_of, parts, row_code, head_codable, codable_append}
 use Rattle.vocabulary.specs.declared.Vocabulary.{Vocabulary}
 use Rattle.vocabulary.specs.Vocabulary.{code_in, prop_in, SomeProposition}
-use Rattle.prop_lists.specs.Row.{encode_row, CodableRow, row_coding, Row, and_after, read_row, propositions_from}
+use Rattle.prop_lists.specs.Row.{Row, and_after, read_row, propositions_from}
 use Rattle.prop_lists.specs.Entries.{use_of, entries, entries_from}
-
--- A proposition is a head and its parts.
-abbrev pub head_of : Prop ℕ → Head
-head_of True = TrueHead
-head_of False = FalseHead
-head_of (Binary c p q) = BinaryHead c
-head_of (Atom a ps) = AtomHead a ps
-head_of (Quantified q x t p) = QuantifiedHead q x t
-
-abbrev parts : Prop ℕ → List (Prop ℕ)
-parts True = []
-parts False = []
-parts (Binary c p q) = p ∷ q ∷ []
-parts (Atom a ps) = []
-parts (Quantified q x t p) = p ∷ []
 
 -- what a head adds to a list
 abbrev pub head_entries : Head → TermList → List (AtomUse ℕ)
@@ -47,14 +35,6 @@ head_entries (AtomHead a ps) (Datatypes v) = []
 head_entries (QuantifiedHead q x t) Atoms = []
 head_entries (QuantifiedHead q x t) (Datatypes v) = use_of t 0 ∷ []
 
-head_code : (p : Prop ℕ) → encode p ≡ encode_head (head_of p) ++ encode_row (parts p)
-unfolding encode encode_head flat_map u16
-head_code True = refl
-head_code False = refl
-head_code (Binary c p q) = rw append-nil
-head_code (Atom a ps) = rw append-nil
-head_code (Quantified q x t p) = rw append-nil
-
 head_list : (p : Prop ℕ) (list : TermList) → entries list p ≡ head_entries (head_of p) list ++ flat_map (entries list) (parts p)
 unfolding get_atoms get_datatypes flat_map
 head_list True = elim [ Atoms ↦ refl | Datatypes v ↦ refl ]
@@ -63,32 +43,7 @@ head_list (Binary c p q) = elim [ Atoms ↦ rw append-nil | Datatypes v ↦ rw (
 head_list (Atom a ps) = elim [ Atoms ↦ refl | Datatypes v ↦ refl ]
 head_list (Quantified q x t p) = elim [ Atoms ↦ rw append-nil | Datatypes v ↦ rw append-nil ]
 
-flat_map_append : {A B : Type 0} (f : A → List B) (xs ys : List A) → flat_map f (xs ++ ys) ≡ flat_map f xs ++ flat_map f ys
-unfolding flat_map
-flat_map_append f [] ys = refl
-flat_map_append f (x ∷ xs) ys = rw (flat_map_append f xs ys, append_assoc)
-
 module _ (names : ℕ) where
-  head_codable : (p : Prop ℕ) → Codable names p → CodableHead names (head_of p) × CodableRow names (parts p)
-  unfolding Codable CodableHead CodableRow
-  head_codable True g = (tt, tt)
-  head_codable False g = (tt, tt)
-  head_codable (Binary c p q) g = (tt, (g.0, (g.1, tt)))
-  head_codable (Atom a ps) g = (g, tt)
-  head_codable (Quantified q x t p) g = ((g.0, g.1), (g.2, tt))
-
-  -- where a proposition stands its head does
-  pub head_there : (code : List ℕ) (at : ℕ) (p : Prop ℕ) (rest : List ℕ) → At names code at p rest
-      → HeadAt names code at (head_of p) (encode_row (parts p) ++ rest)
-  unfolding Stands
-  head_there code at p rest (g, e) =
-      ((head_codable p g).0, cc (e, head_code p, append_assoc (encode_head (head_of p)) (encode_row (parts p)) rest))
-
-  codable_append : (ps qs : List (Prop ℕ)) → CodableRow names ps → CodableRow names qs → CodableRow names (ps ++ qs)
-  unfolding CodableRow
-  codable_append [] qs f g = g
-  codable_append (p ∷ ps) qs f g = (f.0, codable_append ps qs f.1 g)
-
   -- as many bytes as a row has are enough to read it
   read_row_lem : (bytes : ℕ) (ps : List (Prop ℕ)) → CodableRow names ps → length (encode_row ps) ≤ bytes → read_row names bytes (encode_row ps) ≡ ps
   unfolding read_row and_after CodableRow flat_map proposition byte followed_by ◌>>=◌
@@ -179,20 +134,12 @@ pub record First (names : ℕ) (code : List ℕ) (at end next : ℕ) : Type 0 wh
       → entries_from names list code at end ≡ head_entries (head_of (prop_at names code at)) list ++ entries_from names list code next end
 
 module _ (p : Prop ℕ) (ps : List (Prop ℕ)) where
-  -- the code of a row, and its entries: first those of the head, and then those of what stands behind it
-  row_code : encode_row (p ∷ ps) ≡ encode_head (head_of p) ++ encode_row (parts p ++ ps)
-  unfolding flat_map
-  row_code = cc (
-    head_code p,
-    flat_map_append encode (parts p) ps,
-    append_assoc (encode_head (head_of p)) (encode_row (parts p)) (encode_row ps),
-  )
-
+  -- the entries of a row: first those of the head, and then those of what stands behind it
   row_list : (list : TermList) → flat_map (entries list) (p ∷ ps) ≡ head_entries (head_of p) list ++ flat_map (entries list) (parts p ++ ps)
   unfolding flat_map
   row_list list = cc (
     head_list p list,
-    flat_map_append (entries list) (parts p) ps,
+    flat_map-append (entries list) (parts p) ps,
     append_assoc (head_entries (head_of p) list) (flat_map (entries list) (parts p)) (flat_map (entries list) ps),
   )
 
@@ -200,7 +147,7 @@ module _ (p : Prop ℕ) (ps : List (Prop ℕ)) where
       → HeadAt names code at (head_of p) (encode_row (parts p ++ ps) ++ rest)
   unfolding Stands CodableRow
   head_stands names code at rest (g, e) =
-      ((head_codable names p g.0).0, cc (row_code, append_assoc (encode_head (head_of p)) (encode_row (parts p ++ ps)) rest))
+      ((head_codable names p g.0).0, cc (row_code p ps, append_assoc (encode_head (head_of p)) (encode_row (parts p ++ ps)) rest))
 
   -- the first proposition of a row stands in front of the others
   first_stands : (names : ℕ) (code : List ℕ) (at : ℕ) (rest : List ℕ) → Stands (row_coding names) code at (p ∷ ps) rest

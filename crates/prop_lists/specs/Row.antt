@@ -1,25 +1,16 @@
 -- Propositions whose codes stand in a row. What is left of a proposition's code behind any of its heads is such a row.
 use Rattle.std.specs.Prelude.{ℕ, zero, suc, ◌-◌, ◌≤◌, length, take, drop, Option, None, Some}
-use mathlib.Core.List.{List, [], ◌∷◌, flat_map}
+use mathlib.Core.List.{List, [], ◌∷◌}
 use Rattle.definitions.specs.Prop.{Prop}
-use Rattle.definitions.specs.Code.{Read, proposition, encode, Codable}
-use Rattle.prefix_code.specs.Scan.{Coding, Stands}
-
-abbrev pub encode_row : List (Prop ℕ) → List ℕ
-encode_row = flat_map encode
+use Rattle.definitions.specs.Code.{Read, proposition}
+use Rattle.prefix_code.specs.Scan.{Stands}
+use Rattle.prefix_code.specs.Row.{row_coding}
 
 module _ (names : ℕ) where
-  unfoldable pub CodableRow : List (Prop ℕ) → Type 0
-  CodableRow [] = Unit {0}
-  CodableRow (p ∷ ps) = Codable names p × CodableRow ps
-
-  abbrev pub row_coding : Coding (List (Prop ℕ))
-  row_coding = record { Fits = CodableRow; code = encode_row }
-
   -- from `at` up to `end` stand whole propositions in a row
   pub record Row (code : List ℕ) (at end : ℕ) : Type 0 where
     pub propositions : List (Prop ℕ)
-    pub stands : Stands row_coding code at propositions (drop end code)
+    pub stands : Stands (row_coding names) code at propositions (drop end code)
     pub forward : at ≤ end
     pub inside : end ≤ length code
 

@@ -1,132 +1,77 @@
--- A proposition is a head and its parts. What is left of its code behind any of its heads is a row of propositions.
+-- What is left of a proposition's code behind any of its heads is a row of propositions, over other names too.
 use Prim.Native.Nat.{ℕ, ◌+◌, ◌≤◌, ◌<◌}
 use mathlib.Core.Path.{◌≡◌, refl, sym, ap, ◌∙◌}
-use mathlib.Core.List.{List, [], ◌∷◌, ◌++◌, append_assoc, append-nil}
+use mathlib.Core.List.{List, [], ◌∷◌, ◌++◌, append_assoc, append-nil, flat_map}
 use native.Mathlib.Omega.{arith}
 use lib.ListN.{length, drop, length-append, length-drop}
+use Rattle.std.proofs.lemmas.Grind.{flat_map-append}
 use Rattle.definitions.specs.Prop.{Prop, True, False, Binary, Atom, Quantified, rename_prop}
 use Rattle.definitions.specs.Code.{u16, encode, Codable}
 use Rattle.definitions.proofs.PrefixCode.{code_nonempty}
 use Rattle.output.specs.SinkLaws.{SinkLaws}
 use Rattle.prefix_code.specs.Scan.{Stands, Ends}
-use Rattle.prefix_code.specs.Head.{Head, TrueHead, FalseHead, BinaryHead, AtomHead, QuantifiedHead, encode_head, CodableHead, head_coding}
+use Rattle.prefix_code.specs.Head.{encode_head, head_coding}
+use Rattle.prefix_code.specs.Row.{encode_row, CodableRow}
 use Rattle.prefix_code.proofs.Positions.{after, extent}
 use Rattle.prefix_code.proofs.Heads.{HeadAt}
 use Rattle.prefix_code.proofs.Propositions.{headed}
+use Rattle.prefix_code.proofs.Rows.{head_of, parts, row_code, head_codable, codable_append}
 use Rattle.renumbering.specs.Renumbered.{mapped, rename_head, rename_parameters, Standing, Renumbers, Whole, PutWhole}
 use Rattle.renumbering.proofs.Writes.{Left, all_left, piece_less, none_left}
 
-abbrev pub head_of : Prop ℕ → Head
-head_of True = TrueHead
-head_of False = FalseHead
-head_of (Binary c p q) = BinaryHead c
-head_of (Atom a ps) = AtomHead a ps
-head_of (Quantified q x t p) = QuantifiedHead q x t
-
-abbrev pub parts : Prop ℕ → List (Prop ℕ)
-parts True = []
-parts False = []
-parts (Binary c p q) = p ∷ q ∷ []
-parts (Atom a ps) = []
-parts (Quantified q x t p) = p ∷ []
-
 -- the code of propositions in a row, over other names
-unfoldable pub row_over : (ℕ → ℕ) → List (Prop ℕ) → List ℕ
-row_over f [] = []
-row_over f (p ∷ ps) = encode (rename_prop f p) ++ row_over f ps
-
-unfoldable pub row : List (Prop ℕ) → List ℕ
-row [] = []
-row (p ∷ ps) = encode p ++ row ps
-
-row_append : (ps qs : List (Prop ℕ)) → row (ps ++ qs) ≡ row ps ++ row qs
-unfolding row
-row_append [] qs = refl
-row_append (p ∷ ps) qs = rw (row_append ps qs, append_assoc)
-
-over_append : (f : ℕ → ℕ) (ps qs : List (Prop ℕ)) → row_over f (ps ++ qs) ≡ row_over f ps ++ row_over f qs
-unfolding row_over
-over_append f [] qs = refl
-over_append f (p ∷ ps) qs = rw (over_append f ps qs, append_assoc)
-
-head_code : (p : Prop ℕ) → encode p ≡ encode_head (head_of p) ++ row (parts p)
-unfolding encode encode_head row u16
-head_code True = refl
-head_code False = refl
-head_code (Binary c p q) = rw append-nil
-head_code (Atom a ps) = rw append-nil
-head_code (Quantified q x t p) = rw append-nil
+abbrev pub row_over : (ℕ → ℕ) → List (Prop ℕ) → List ℕ
+row_over f = flat_map (λ p. encode (rename_prop f p))
 
 head_over : (f : ℕ → ℕ) (p : Prop ℕ) → encode (rename_prop f p) ≡ encode_head (rename_head f (head_of p)) ++ row_over f (parts p)
-unfolding encode encode_head rename_head rename_prop rename_parameters row_over u16
+unfolding encode encode_head rename_head rename_prop rename_parameters flat_map u16
 head_over f True = refl
 head_over f False = refl
 head_over f (Binary c p q) = rw append-nil
 head_over f (Atom a ps) = rw append-nil
 head_over f (Quantified q x t p) = rw append-nil
 
-pub row_code : (p : Prop ℕ) (ps : List (Prop ℕ)) → row (p ∷ ps) ≡ encode_head (head_of p) ++ row (parts p ++ ps)
-unfolding row
-row_code p ps = cc (head_code p, row_append (parts p) ps, append_assoc (encode_head (head_of p)) (row (parts p)) (row ps))
-
 pub row_over_lem : (f : ℕ → ℕ) (p : Prop ℕ) (ps : List (Prop ℕ))
     → row_over f (p ∷ ps) ≡ encode_head (rename_head f (head_of p)) ++ row_over f (parts p ++ ps)
-unfolding row_over
+unfolding flat_map
 row_over_lem f p ps =
-    cc (head_over f p, over_append f (parts p) ps, append_assoc (encode_head (rename_head f (head_of p))) (row_over f (parts p)) (row_over f ps))
+    cc (head_over f p, flat_map-append (λ q. encode (rename_prop f q)) (parts p) ps, append_assoc (encode_head (rename_head f (head_of p))) (row_over f (parts p)) (row_over f ps))
 
 module _ (names : ℕ) where
-  unfoldable pub CodableRow : List (Prop ℕ) → Type 0
-  CodableRow [] = Unit {0}
-  CodableRow (p ∷ ps) = Codable names p × CodableRow ps
-
-  head_codable : (p : Prop ℕ) → Codable names p → CodableHead names (head_of p) × CodableRow (parts p)
-  unfolding Codable CodableHead CodableRow
-  head_codable True g = (tt, tt)
-  head_codable False g = (tt, tt)
-  head_codable (Binary c p q) g = (tt, (g.0, (g.1, tt)))
-  head_codable (Atom a ps) g = (g, tt)
-  head_codable (Quantified q x t p) g = ((g.0, g.1), (g.2, tt))
-
-  codable_append : (ps qs : List (Prop ℕ)) → CodableRow ps → CodableRow qs → CodableRow (ps ++ qs)
-  unfolding CodableRow
-  codable_append [] qs f g = g
-  codable_append (p ∷ ps) qs f g = (f.0, codable_append ps qs f.1 g)
-
   -- the rest of the code from i on is a row of propositions
   pub record RowAt (code : List ℕ) (i : ℕ) (ps : List (Prop ℕ)) : Type 0 where
-    pub codable : CodableRow ps
-    pub coded : drop i code ≡ row ps
+    pub codable : CodableRow names ps
+    pub coded : drop i code ≡ encode_row ps
 
   -- its first head, and the row behind it
   pub record FirstHead (code : List ℕ) (i : ℕ) (ps : List (Prop ℕ)) : Type 0 where
     pub proposition : Prop ℕ
     pub others : List (Prop ℕ)
     pub is : ps ≡ proposition ∷ others
-    pub stands : HeadAt names code i (head_of proposition) (row (parts proposition ++ others))
+    pub stands : HeadAt names code i (head_of proposition) (encode_row (parts proposition ++ others))
     pub behind : RowAt code (i + length (encode_head (head_of proposition))) (parts proposition ++ others)
 
   pub first_head : (code : List ℕ) (i : ℕ) (ps : List (Prop ℕ)) → i < length code → RowAt code i ps → FirstHead code i ps
-  unfolding CodableRow Stands row
+  unfolding CodableRow Stands flat_map
   first_head code i [] h r = absurd (omega (arith, length-drop i code, ap length r.coded))
   first_head code i (p ∷ ps) h r =
       let g = r.codable in
-      let here : drop i code ≡ encode_head (head_of p) ++ row (parts p ++ ps) = r.coded ∙ row_code p ps in
-      let parted = head_codable p g.0 in
+      let here : drop i code ≡ encode_head (head_of p) ++ encode_row (parts p ++ ps) = r.coded ∙ row_code p ps in
+      let parted = head_codable names p g.0 in
       record {
         proposition = p;
         others = ps;
         is = refl;
         stands = (parted.0, here);
         behind = record {
-          codable = codable_append (parts p) ps parted.1 g.1;
-          coded = after code i (encode_head (head_of p)) (row (parts p ++ ps)) here;
+          codable = codable_append names (parts p) ps parted.1 g.1;
+          coded = after code i (encode_head (head_of p)) (encode_row (parts p ++ ps)) here;
         };
       }
 
 -- all of the code is a row of one proposition
 pub whole_row : {names : ℕ} {code : List ℕ} {p : Prop ℕ} → Codable names p → code ≡ encode p → RowAt names code 0 (p ∷ [])
-unfolding CodableRow row
+unfolding CodableRow flat_map
 whole_row {p = p} g e = record { codable = (g, tt); coded = e ∙ sym (append-nil (encode p)) }
 
 -- The propositions that are left decide what is left to write.
@@ -142,7 +87,7 @@ module _ (names : ℕ) (code numbers : List ℕ) {S : Type 0} (puts : S → List
 
 module _ {names : ℕ} {code numbers : List ℕ} {S : Type 0} {puts : S → List ℕ → S → Type 0} (laws : SinkLaws puts) {before : S} where
   pub at_first : Remaining names code numbers puts before before 0
-  unfolding CodableRow row row_over
+  unfolding CodableRow flat_map
   at_first = record {
     inside = omega arith;
     some = λ p g e. record {
@@ -157,7 +102,7 @@ module _ {names : ℕ} {code numbers : List ℕ} {S : Type 0} {puts : S → List
     next_asked w h =
         let more = r.some w.value w.codable w.coded in
         let f = first_head names code i more.others h more.stands in
-        record { value = head_of f.proposition; rest = row (parts f.proposition ++ f.others); inside = r.inside; stands = f.stands }
+        record { value = head_of f.proposition; rest = encode_row (parts f.proposition ++ f.others); inside = r.inside; stands = f.stands }
 
     -- the next head ends within the code
     pub next_inside : Whole names code → i < length code → {j : ℕ} → Ends (head_coding names) code i j → (j ≤ length code) × (i < j)
@@ -177,7 +122,7 @@ module _ {names : ℕ} {code numbers : List ℕ} {S : Type 0} {puts : S → List
           let more = r.some p g e in
           let f = first_head names code i more.others h more.stands in
           let q : Prop ℕ = f.proposition in
-          let rest : List ℕ = row (parts q ++ f.others) in
+          let rest : List ℕ = encode_row (parts q ++ f.others) in
           let ended = ends.found (head_of q) rest f.stands in
           record {
             others = parts q ++ f.others;
@@ -187,7 +132,7 @@ module _ {names : ℕ} {code numbers : List ℕ} {S : Type 0} {puts : S → List
     }
 
     pub all_written : length code ≤ i → PutWhole names code numbers puts before mid
-    unfolding row_over row
+    unfolding flat_map
     all_written h = record { put = λ p g e. let more = r.some p g e in go p more.others more.stands more.left }
       where
         go : (p : Prop ℕ) (ps : List (Prop ℕ)) → RowAt names code i ps
@@ -195,4 +140,4 @@ module _ {names : ℕ} {code numbers : List ℕ} {S : Type 0} {puts : S → List
             → puts before (encode (rename_prop (mapped numbers) p)) mid
         go p [] s l = none_left laws l
         go p (q ∷ qs) s l =
-            absurd (omega (arith, length-drop i code, ap length s.coded, length-append (encode q) (row qs), code_nonempty q))
+            absurd (omega (arith, length-drop i code, ap length s.coded, length-append (encode q) (encode_row qs), code_nonempty q))
