@@ -15,7 +15,8 @@ use Rattle.definitions.specs.Name.{compare_number, or_else, compare_name, is_equ
 use Rattle.definitions.proofs.NameOrder.{equal_name}
 use Rattle.identifier.specs.Pairs.{same_bytes}
 
-or_else_is : (o next : Ordering) → or_else o next ≡ ordering_then o next
+-- the definitions' word for the first answer that is not equal is std's
+pub or_else_is : (o next : Ordering) → or_else o next ≡ ordering_then o next
 unfolding or_else
 or_else_is Less next = refl
 or_else_is Equal next = refl
