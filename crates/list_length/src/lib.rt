@@ -18,7 +18,8 @@ pub fn list_length(s: &[u8], list: TermList) -> Result<usize, Refusal>
 {
     let mut terms = [0u16; TERM_NUMBERS];
     let (sheet, n) = sheet_term(s, &mut terms)?;
+    let memory = sheet.memory();
     let mut length = Counter { count: 0 };
-    put_term_list(&mut length, list, s, sheet.vocabulary(), &terms, n);
+    put_term_list(&mut length, list, &memory, &terms, n);
     Ok(length.count)
 }

@@ -10,16 +10,20 @@ use Rattle.text.proofs.Ends.{code_short}
 use Rattle.text.proofs.Labels.{listable}
 use Rattle.list_length.proofs.Numbers.{list_short, length_told, refusal_told}
 use Rattle.list_length.proofs.list_length.Goals as goal
-use Rattle.list_length.proofs.list_length.Goals.{After-vocabulary}
+use Rattle.list_length.proofs.list_length.Goals.{After-memory-memory}
 
-its_vocabulary : (c : After-vocabulary) → c.vocabulary.result ≡ sheet_vocabulary c.args.s.now
-its_vocabulary c = rw c.in_ok-sheet.ensures.same at c.vocabulary.ensures.is
+-- the memory that is listed is the sheet's
+its_bytes : (c : After-memory-memory) → c.memory-memory.result.bytes.now ≡ c.args.s.now
+its_bytes c = c.memory-memory.ensures.bytes ∙ c.in_ok-sheet.ensures.same
 
-listed : (c : After-vocabulary) → Listable c.args.s.now c.vocabulary.result c.sheet_term.new.terms c.in_ok-sheet.n
+its_vocabulary : (c : After-memory-memory) → c.memory-memory.result.vocabulary ≡ sheet_vocabulary c.args.s.now
+its_vocabulary c = rw c.in_ok-sheet.ensures.same at c.memory-memory.ensures.vocabulary
+
+listed : (c : After-memory-memory) → Listable c.args.s.now c.memory-memory.result.vocabulary c.sheet_term.new.terms c.in_ok-sheet.n
 listed c = let given = c.in_ok-sheet.ensures in listable given.sheet (its_vocabulary c) given.term
 
 pub put_term_list-requires : goal.put_term_list-requires
-put_term_list-requires c = listed (goal.at.put_term_list-requires c).After-vocabulary
+put_term_list-requires c = let here = (goal.at.put_term_list-requires c).After-memory-memory in rw (its_bytes here) (listed here)
 
 pub returns-in_err-sheet : goal.returns-in_err-sheet
 returns-in_err-sheet c = (search rules) ∙ refusal_told _ _ c.in_err-sheet.ensures
@@ -28,10 +32,11 @@ pub returns : goal.returns
 unfolding step_limit
 returns c =
     let given = c.in_ok-sheet.ensures in
-    let same = its_vocabulary (goal.at.returns c).After-vocabulary in
+    let here = (goal.at.returns c).After-memory-memory in
+    let same = its_vocabulary here in
     let small : c.in_ok-sheet.n < 2048 = omega (arith, given.term.held, given.term.room) in
-    let short = list_short _ _ (code_short given.sheet same) c.args.list (listed (goal.at.returns c).After-vocabulary) small in
-    length_told _ _ given.sheet same given.term short refl c.put_term_list.ensures
+    let short = list_short _ _ (code_short given.sheet same) c.args.list (listed here) small in
+    length_told _ _ given.sheet same given.term short refl (rw (its_bytes here) at c.put_term_list.ensures)
 
 pub slice_bounds-put_term_list-end : goal.slice_bounds-put_term_list-end
 unfolding step_limit
