@@ -82,7 +82,7 @@ comparison_kept s i j = after _ (λ _. after _ (λ _. conclusions_kept _ _))
 kept_answer : {o p : Outcome Bool} → Kept o p → {b : Bool} → o ≡ accepted b → p ≡ accepted b
 unfolding refuse
 kept_answer same e = e
-kept_answer clash_is_no e = let no_such : ◌≡◌ {A = ℕ} 0 1 = cc in absurd (omega arith)
+kept_answer clash_is_no e = absurd (grind arith)
 
 pub answer_kept : (s : List ℕ) (i j : ℕ) {b : Bool} → comparison18 s i j ≡ accepted b → comparison s i j ≡ accepted b
 answer_kept s i j e = kept_answer (comparison_kept s i j) e

@@ -67,7 +67,7 @@ module _ {Kind : Refusal → Type 0} where
 
 -- the refusal of such an outcome is of the kind
 pub refused_kind : {Kind : Refusal → Type 0} {A : Type 0} {o : Outcome A} {r : Refusal} → Meets Kind o → o ≡ refused r → Kind r
-refused_kind is_accepted e = let no : ◌≡◌ {A = ℕ} 0 1 = cc in absurd (omega arith)
+refused_kind is_accepted e = absurd (grind arith)
 refused_kind {r = r} (is_refused {r = x} h) e = let same : x ≡ r = cc in rw same at h
 
 pub widened : {Kind Wide : ℕ → Type 0} → ((number : ℕ) → Kind number → Wide number) → {A : Type 0} {o : Outcome A} → Uses Kind o → Uses Wide o

@@ -85,15 +85,15 @@ leaves_enumerate names =
     record {
       sound = sound;
       complete = complete;
-      once = (new_true, (no_atom False (λ n e. let no : ◌≡◌ {A = ℕ} 0 1 = cc in omega arith), once_atoms 0 names));
+      once = (new_true, (no_atom False (λ n e. grind arith), once_atoms 0 names));
     }
   where
     no_atom : (p : Prop ℕ) → ((n : ℕ) → p ≡ Atom n [] → ⊥) → In p (atoms_from 0 names) → ⊥
     no_atom p differ h = let a = atom_of 0 names h in differ a.number a.is
 
     new_true : In True (False ∷ atoms_from 0 names) → ⊥
-    new_true (here e) = let no : ◌≡◌ {A = ℕ} 0 1 = cc in omega arith
-    new_true (later h) = no_atom True (λ n e. let no : ◌≡◌ {A = ℕ} 0 1 = cc in omega arith) h
+    new_true (here e) = grind arith
+    new_true (later h) = no_atom True (λ n e. grind arith) h
 
     sound : (p : Prop ℕ) → In p (True ∷ (False ∷ atoms_from 0 names)) → Over names p × (connectives p ≡ 0)
     sound p (here e) = rw e (tt, refl)
@@ -170,10 +170,10 @@ module _ (names k : ℕ) (f : ℕ → List (Prop ℕ)) (known : (j : ℕ) → j 
         complete = complete;
         once =
             once_append (of_root and f k k) (of_root or f k k ++ of_root impl f k k) (root_once and k (omega arith))
-            (once_append (of_root or f k k) (of_root impl f k k) (root_once or k (omega arith)) (root_once impl k (omega arith)) (λ r i j. apart_roots or impl (λ e. let no : ◌≡◌ {A = ℕ} 0 1 = cc in omega arith) i j))
+            (once_append (of_root or f k k) (of_root impl f k k) (root_once or k (omega arith)) (root_once impl k (omega arith)) (λ r i j. apart_roots or impl (λ e. grind arith) i j))
             (λ r i j. elim (in_either (of_root or f k k) (of_root impl f k k) j) [
-              | inl m ↦ apart_roots and or (λ e. let no : ◌≡◌ {A = ℕ} 0 1 = cc in omega arith) i m
-              | inr m ↦ apart_roots and impl (λ e. let no : ◌≡◌ {A = ℕ} 0 1 = cc in omega arith) i m
+              | inl m ↦ apart_roots and or (λ e. grind arith) i m
+              | inr m ↦ apart_roots and impl (λ e. grind arith) i m
             ]);
       }
     where

@@ -17,12 +17,12 @@ use Rattle.exercises.specs.Names.{count_of}
 use Rattle.exercises.specs.Sizes.{code_at, LocatedAt}
 
 decided : (bad : Bool) (k n : ℕ) → Some n ≡ cond bad None (Some k) → (bad ≡ false) × (k ≡ n)
-decided true k n e = let never : ◌≡◌ {A = ℕ} 0 1 = cc in absurd (omega arith)
+decided true k n e = absurd (grind arith)
 decided false k n e = (refl, cc)
 
 undecided : (bad : Bool) (k : ℕ) → None ≡ cond bad None (Some k) → bad ≡ true
 undecided true k e = refl
-undecided false k e = let never : ◌≡◌ {A = ℕ} 0 1 = cc in absurd (omega arith)
+undecided false k e = absurd (grind arith)
 
 first_fails : (a b c : Bool) → (a || b || c) ≡ false → a ≡ false
 first_fails true b c e = e

@@ -70,8 +70,8 @@ malformed names x h =
     go false false twice = refl
 
 parts : (many all twice : Bool) → (many || not all || twice) ≡ false → (all ≡ true) × (twice ≡ false)
-parts true all twice e = let z : ◌≡◌ {A = ℕ} 0 1 = cc in absurd (omega arith)
-parts false false twice e = let z : ◌≡◌ {A = ℕ} 0 1 = cc in absurd (omega arith)
+parts true all twice e = absurd (grind arith)
+parts false false twice e = absurd (grind arith)
 parts false true twice e = (refl, e)
 
 -- behind names that may be asked about there is room for one that differs from them
@@ -97,7 +97,7 @@ still_bad names x bad = by_cases (dec_lt 3 (length names))
     keep false false formed twice again e = refl
     keep false true true true again e = refl
     keep false true false twice again e = refl
-    keep false true true false again e = let z : ◌≡◌ {A = ℕ} 0 1 = cc in absurd (omega arith)
+    keep false true true false again e = absurd (grind arith)
 
 -- names that may not be asked about stay so, whatever follows them
 bad_front : (names rest : List Name) → bad_names names ≡ true → bad_names (names ++ rest) ≡ true

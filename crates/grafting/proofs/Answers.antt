@@ -44,11 +44,11 @@ by_mapped (Err x) r w cases says = let (e, is, p) = err_from_is_err_and r cases 
 
 pub accepted_by : {A : Type 0} (a : Result A Refusal) {r : Result A (Whose × Refusal)} (w : Whose) {x : A} → By a w r → r ≡ Ok x → a ≡ Ok x
 accepted_by (Ok y) w cases is = cc
-accepted_by (Err y) w cases is = absurd (let z : ◌≡◌ {A = ℕ} 0 1 = cc in omega arith)
+accepted_by (Err y) w cases is = absurd (grind arith)
 
 pub refused_as : {A : Type 0} (a : Result A Refusal) {r : Result A (Whose × Refusal)} {w : Whose} {e : Whose × Refusal} → By a w r → r ≡ Err e
     → (x : Refusal) × (a ≡ Err x) × (e ≡ (w, x))
-refused_as (Ok y) cases is = absurd (let z : ◌≡◌ {A = ℕ} 0 1 = cc in omega arith)
+refused_as (Ok y) cases is = absurd (grind arith)
 refused_as (Err x) cases is = (x, refl, cc)
 
 pub told_by : {o : defined.Grafted} {before after : List ℕ} {r x : Result ℕ (Whose × Refusal)} → FillsBy o before after r → r ≡ x → FillsBy o before after x
@@ -112,7 +112,7 @@ module _ (s t : List ℕ) (k room : ℕ) {before after : List ℕ} {r : Result S
           let answer = rw is at f.answer in
           let same : y ≡ x = cc in
           rw (is, same) (record { answer = refl; memory = rw is at f.memory }, refl)
-      go (accepted m) is = let answer = rw is at f.answer in absurd (let z : ◌≡◌ {A = ℕ} 0 1 = cc in omega arith)
+      go (accepted m) is = let answer = rw is at f.answer in absurd (grind arith)
 
   -- a merged sheet: its header, and its bytes at the start of the memory
   pub record Stands (m : Sheet) : Type 0 where
@@ -156,7 +156,7 @@ module _ {s t : List ℕ} {h g : Sheet} (a : AcceptedSheet s h) (b : AcceptedShe
   stands f {m} e = go (graft s t k room) refl
     where
       go : (o : Outcome (List ℕ)) → graft s t k room ≡ o → Stands s t k room f m
-      go (refused y) is = let answer = rw is at f.answer in absurd (let z : ◌≡◌ {A = ℕ} 0 1 = cc in omega arith)
+      go (refused y) is = let answer = rw is at f.answer in absurd (grind arith)
       go (accepted l) is =
           let answer = rw is at f.answer in
           record { sheet = l; is = is; header = cc; has = merged_header l is; memory = rw is at f.memory }
@@ -198,7 +198,7 @@ module _ (s t : List ℕ) (k room : ℕ) where
   bytes-merge s-bytes t-bytes {before} {after} {r} f n e = go (graft_answer s t k room) refl
     where
       go : (o : defined.Grafted) → graft_answer s t k room ≡ o → Merges s t k (take n after)
-      go (refused_by w x) is = let answer = rw is at f.answered in absurd (let z : ◌≡◌ {A = ℕ} 0 1 = cc in omega arith)
+      go (refused_by w x) is = let answer = rw is at f.answered in absurd (grind arith)
       go (merged m) is =
           let answer = rw is at f.answered in
           let memory = rw is at f.memory in

@@ -42,7 +42,7 @@ unfolding refuse_if refuse ◌>>=◌
 header_names_none true out wrong e = rw (← same_refusal e) (nameless 1 0 (omega arith))
 header_names_none false true wrong e = rw (← same_refusal e) (nameless 2 0 (omega arith))
 header_names_none false false true e = rw (← same_refusal e) (nameless 3 0 (omega arith))
-header_names_none false false false e = absurd (let z : ◌≡◌ {A = ℕ} 0 1 = cc in omega arith)
+header_names_none false false false e = absurd (grind arith)
 
 -- that of a version too
 version_names_none : (version : ℕ) {r : Refusal} → version_of version ≡ refused r → names_step r ≡ false
@@ -52,9 +52,9 @@ version_names_none version e = of_tests (eqb version 1) (eqb version 2) (eqb ver
     of_tests : (first second third : Bool) {r : Refusal}
         → cond first (accepted First) (cond second (accepted Second) (cond third (accepted Third) (refused (record { number = 21; place = 0 })))) ≡ refused r
         → names_step r ≡ false
-    of_tests true second third e = absurd (let z : ◌≡◌ {A = ℕ} 0 1 = cc in omega arith)
-    of_tests false true third e = absurd (let z : ◌≡◌ {A = ℕ} 0 1 = cc in omega arith)
-    of_tests false false true e = absurd (let z : ◌≡◌ {A = ℕ} 0 1 = cc in omega arith)
+    of_tests true second third e = absurd (grind arith)
+    of_tests false true third e = absurd (grind arith)
+    of_tests false false true e = absurd (grind arith)
     of_tests false false false e = rw (← same_refusal e) named_by_21
 
 -- Of a sheet's bytes:
@@ -66,7 +66,7 @@ module _ (s : List ℕ) where
   checked_header (refused x) e only names =
       let is : x ≡ _ = only x (sym (in_stages s) ∙ rw e) in
       let none = header_names_none _ _ _ e in
-      absurd (let z : ◌≡◌ {A = ℕ} 0 1 = cc in omega arith)
+      absurd (grind arith)
 
   -- the refusal of an answer that is the admission's wherever that refuses
   after_header : {r : Refusal} → ((x : Refusal) → admitted s ≡ refused x → x ≡ r) → AfterHeader s r
@@ -79,12 +79,12 @@ module _ (s : List ℕ) where
   pub header_after_header : {r : Refusal} → header_checks s ≡ refused r → AfterHeader s r
   unfolding header_checks
   header_after_header e =
-      record { header = λ names. absurd (let none = header_names_none _ _ _ e in let z : ◌≡◌ {A = ℕ} 0 1 = cc in omega arith) }
+      record { header = λ names. absurd (grind (arith, header_names_none _ _ _ e)) }
 
   -- 21 names no step, whatever the bytes
   pub version_after_header : (version : ℕ) {r : Refusal} → version_of version ≡ refused r → AfterHeader s r
   version_after_header version e =
-      record { header = λ names. absurd (let none = version_names_none version e in let z : ◌≡◌ {A = ℕ} 0 1 = cc in omega arith) }
+      record { header = λ names. absurd (grind (arith, version_names_none version e)) }
 
   pub text_after_header : (v : Version) (style : Style) (room : ℕ) {r : Refusal} → is_in_room room (sheet_text s v style) ≡ refused r → AfterHeader s r
   unfolding is_in_room sheet_text named_term sheet_term map_outcome ◌>>=◌

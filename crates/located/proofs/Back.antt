@@ -26,10 +26,10 @@ module _ (s : List ℕ) {A : Type 0} where
   pub accepted_back : (a : Result A Refusal) {r : Result A Located} {x : A} → r ≡ back a → r ≡ Ok x → a ≡ Ok x
   unfolding back
   accepted_back (Ok y) e is = cc
-  accepted_back (Err y) e is = absurd (let z : ◌≡◌ {A = ℕ} 0 1 = cc in omega arith)
+  accepted_back (Err y) e is = absurd (grind arith)
 
   pub refused_back : (a : Result A Refusal) {r : Result A Located} {l : Located} → r ≡ back a → r ≡ Err l
       → (x : Refusal) × (a ≡ Err x) × (l ≡ located s x)
   unfolding back
-  refused_back (Ok y) e is = absurd (let z : ◌≡◌ {A = ℕ} 0 1 = cc in omega arith)
+  refused_back (Ok y) e is = absurd (grind arith)
   refused_back (Err x) e is = (x, refl, cc)

@@ -20,12 +20,12 @@ use Rattle.vocabulary.specs.Vocabulary.{name_in}
 use Rattle.merged_names.specs.Numbered.{Indexed, Numbered, Known, known, new}
 
 found_some : (o : Option ℕ) (i : ℕ) → Some i ≡ o → o ≡ Some i
-found_some None i e = absurd (let z : ◌≡◌ {A = ℕ} 0 1 = cc in omega arith)
+found_some None i e = absurd (grind arith)
 found_some (Some j) i e = cc
 
 found_none : (o : Option ℕ) → None ≡ o → o ≡ None
 found_none None e = refl
-found_none (Some j) e = absurd (let z : ◌≡◌ {A = ℕ} 0 1 = cc in omega arith)
+found_none (Some j) e = absurd (grind arith)
 
 -- a name by the vocabulary is the sheet's
 pub its_name : {i : Index} → Indexed i → {x : Name} (n : ℕ) → x ≡ name_in i.memory.bytes.now i.memory.vocabulary n → x ≡ name_of i.memory.bytes.now n
@@ -48,7 +48,7 @@ module _ (d : List ℕ) (n : ℕ) {q : Option ℕ} (searched-there : q ≡ (plai
       go : (o : Option ℕ) → LowestNumber (name_of d) (names d) (name_of d n) o → o ≡ Some m
           → (m < names d) × (name_of d m ≡ name_of d n) × ((i : ℕ) → i < m → name_of d i ≡ name_of d n → ⊥)
       go (Some j) (is_lowest l e f) same = let z : j ≡ m = cc in rw (← z) (l, e, f)
-      go None (there_is_none f) same = absurd (let z : ◌≡◌ {A = ℕ} 0 1 = cc in omega arith)
+      go None (there_is_none f) same = absurd (grind arith)
 
   pub lowest_below : (m : ℕ) → q ≡ Some m → m < names d
   lowest_below m is = (lowest_there m is).0
@@ -58,7 +58,7 @@ module _ (d : List ℕ) (n : ℕ) {q : Option ℕ} (searched-there : q ≡ (plai
   held_by_donor below is = go there (plain_search_lowest (name_of d) (names d) (name_of d n)) (found_none there (sym is ∙ searched-there))
     where
       go : (o : Option ℕ) → LowestNumber (name_of d) (names d) (name_of d n) o → o ≡ None → ⊥
-      go (Some j) (is_lowest l e f) same = let z : ◌≡◌ {A = ℕ} 0 1 = cc in omega arith
+      go (Some j) (is_lowest l e f) same = grind arith
       go None (there_is_none f) same = f n below refl
 
 module _ (h d : List ℕ) (n : ℕ) (few : names h ≤ name_limit) (few-donor : names d ≤ name_limit) (below : n < names d) where

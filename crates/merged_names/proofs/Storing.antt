@@ -22,11 +22,11 @@ module _ (h d : List ℕ) (n : ℕ) where
       from : {i j : ℕ} → renumbered h d n ≡ j → j < 65536 → missing_below h d (n + 1) ≡ missing_below h d n → Some j ≡ Some i
           → (renumbered h d n ≡ i) × (i < 65536) × (missing_below h d (n + 1) ≡ missing_below h d n)
       from {i} {j} e b m is = let same : j ≡ i = cc in rw (← same) (e, b, m)
-  has_number (new e m) is = absurd (let z : ◌≡◌ {A = ℕ} 0 1 = cc in omega arith)
+  has_number (new e m) is = absurd (grind arith)
 
   pub has_none : {r : Option ℕ} → Known h d n r → r ≡ None
       → (renumbered h d n ≡ names h + length (missing_below h d n)) × (length (missing_below h d (n + 1)) ≡ length (missing_below h d n) + 1)
-  has_none (known e b m) is = absurd (let z : ◌≡◌ {A = ℕ} 0 1 = cc in omega arith)
+  has_none (known e b m) is = absurd (grind arith)
   has_none (new e m) is = (e, m)
 
   module _ {numbers : List ℕ} (few : names d ≤ name_limit) (below : n < names d) (stored : Numbered h d n numbers) where

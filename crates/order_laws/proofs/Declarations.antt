@@ -1,5 +1,4 @@
 -- Ticket 8: first occurrences are the same collection, each once; sorted they are so too, and ascend.
-use Prim.Native.Nat.{ℕ}
 use mathlib.Core.Path.{◌≡◌, refl, sym, ap, subst}
 use mathlib.Core.Logic.Iff
 use mathlib.Core.Logic.{◌↔◌}
@@ -23,7 +22,7 @@ use Rattle.order_laws.proofs.Lawfulness.{names_ordered, uses_ordered}
 module _ {A : Type 0} (same : A → A → Bool) (decides : (a b : A) → (same a b ≡ true) ↔ (a ≡ b)) where
   found : (a : A) (l : List A) → occurs same a l ≡ true → In a l
   unfolding occurs
-  found a [] e = let never : ◌≡◌ {A = ℕ} 0 1 = cc in absurd (omega arith)
+  found a [] e = absurd (grind arith)
   found a (b ∷ l) e = go (found a l) (same a b) (decides a b).0 e
     where
       go : (occurs same a l ≡ true → In a l) → (s : Bool) → (s ≡ true → a ≡ b) → (s || occurs same a l) ≡ true → In a (b ∷ l)
@@ -41,7 +40,7 @@ module _ {A : Type 0} (same : A → A → Bool) (decides : (a b : A) → (same a
       either false = refl
 
   absent : (a : A) (l : List A) → occurs same a l ≡ false → In a l → ⊥
-  absent a l e h = let f = missed a l h in let never : ◌≡◌ {A = ℕ} 0 1 = cc in omega arith
+  absent a l e h = let f = missed a l h in grind arith
 
   -- what stands in the first occurrences after those seen
   after_in : (b : A) (seen l : List A) → In b (firsts_after same seen l) → In b l × (In b seen → ⊥)
@@ -68,7 +67,7 @@ module _ {A : Type 0} (same : A → A → Bool) (decides : (a b : A) → (same a
           → In b (a ∷ firsts_after same (a ∷ seen) l)
       later_one again true e k = here ((decides b a).0 e)
       later_one again false e k =
-          later (again k (new (λ q. let z = (decides b a).1 q in let never : ◌≡◌ {A = ℕ} 0 1 = cc in omega arith)))
+          later (again k (new (λ q. let z = (decides b a).1 q in grind arith)))
 
       go : ((z : List A) → In b l → (In b z → ⊥) → In b (firsts_after same z l)) → (t : Bool) → occurs same a seen ≡ t → In b (a ∷ l)
           → In b (cond t (firsts_after same seen l) (a ∷ firsts_after same (a ∷ seen) l))

@@ -3,7 +3,6 @@ use mathlib.Core.Path.{◌≡◌, refl, sym, ◌∙◌, ap, subst}
 use mathlib.Core.Logic.{◌⊎◌, inl, inr}
 use mathlib.Core.Bool.{Bool, true, false, cond}
 use mathlib.Core.List.{List, [], ◌∷◌}
-use Prim.Native.Nat.{ℕ}
 use native.Mathlib.Omega.{arith}
 use Rattle.std.specs.declared.cmp.Ordering.{Ordering}
 use Rattle.std.specs.declared.cmp.Ordering.TheVariants.{Less, Equal, Greater}
@@ -113,7 +112,7 @@ module _ {A : Type 0} (compare : A → A → Ordering) where
     below_all a b (c ∷ l) h s (later k) = order.transitive a c b h (below_all c b l s.0 s.1 k)
 
     not_below_itself : (a : A) → compare a a ≡ Less → ⊥
-    not_below_itself a e = let f = order.self a in let never : ◌≡◌ {A = ℕ} 0 1 = cc in omega arith
+    not_below_itself a e = let f = order.self a in grind arith
 
     not_both_below : (a b : A) → compare a b ≡ Less → compare b a ≡ Less → ⊥
     not_both_below a b e f = not_below_itself a (order.transitive a b a e f)

@@ -48,7 +48,7 @@ part_bytes n k l bytes i = by_cases (dec_lt i n)
 
 pub is_some : {A : Type 0} (o : Option A) → is_none o ≡ false → (a : A) × (o ≡ Some a)
 unfolding is_none
-is_some None h = let z : ◌≡◌ {A = ℕ} 0 1 = cc in absurd (omega arith)
+is_some None h = absurd (grind arith)
 is_some (Some a) h = (a, refl)
 
 -- Of a pair that marks the code of one proposition:

@@ -43,8 +43,7 @@ module _ (names : ℕ) (l : List ℕ) (bytes : Bytes l) where
       go None e = ne_eqb r (length l) λ h.
           let (p, rest, t, end) = s.only (omega arith) in
           let d = whole_decodes p rest t (omega arith) in
-          let z : ◌≡◌ {A = ℕ} 0 1 = cc in
-          omega arith
+          grind arith
       go (Some p) e = eq-eqb r (length l) (omega (arith, s.found p [] (decoded p e), decoded_length p e))
 
   pub shallow_whole : (depth r : ℕ) → is_none (decode names l) ≡ false → Ends (shallow_coding names depth) l 0 r

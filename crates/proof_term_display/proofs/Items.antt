@@ -25,7 +25,7 @@ module _ (format : List ℕ) (i : ℕ) where
 -- a byte between two
 both : (a b : Bool) → a && b ≡ true → (a ≡ true) × (b ≡ true)
 both true b e = (refl, e)
-both false b e = absurd (let z : ◌≡◌ {A = ℕ} 0 1 = cc in omega arith)
+both false b e = absurd (grind arith)
 
 pub between : (first b last : ℕ) → leb first b && leb b last ≡ true → (first ≤ b) × (b ≤ last)
 between first b last e = let h = both (leb first b) (leb b last) e in (leb-true first b h.0, leb-true b last h.1)
@@ -42,7 +42,7 @@ not_between first b last h = not_both (leb first b) (leb b last) (λ e f. h (leb
 outside : (first b last : ℕ) → leb first b && leb b last ≡ false → first ≤ b → b ≤ last → ⊥
 outside first b last e h k =
     let z : ◌≡◌ {A = Bool} true false = rw (le-leb first b h, le-leb b last k) at e in
-    let n : ◌≡◌ {A = ℕ} 0 1 = cc in omega arith
+    grind arith
 
 -- there are nine parts
 part_few : (which : TermPart) → part_number which < 9

@@ -48,7 +48,7 @@ stands_at c {at} found = go c.conclusion refl found
   where
     go : (d : Conclusion) → c.conclusion ≡ d → offset_of c.pairs.now d ≡ Some at → SomeProposition c.code.now at
     go (PropIsTrue p) h is = let here : at ≡ pair_offset c.pairs.now p = cc in rw here ((opens c).stands p h)
-    go (TypeJudgement x) h is = let z : ◌≡◌ {A = ℕ} 0 1 = cc in absurd (omega arith)
+    go (TypeJudgement x) h is = absurd (grind arith)
 
 module _ {names : ℕ} {pairs code records : List ℕ} {k : ℕ} {c : Conclusion} (good : GoodStep names pairs code records k) (bytes : Bytes code) (e : c ≡ (step_at records k).conclusion) where
   pub means : Means names pairs code c (conclusion_in names pairs code records k)

@@ -32,18 +32,18 @@ same_number m n h = eqb-true m n (go (eqb m n) (rw (eq-eqb n n refl) at (h (λ i
   where
     go : (b : Bool) → ◌≡◌ {A = Prop ℕ} True (cond b True False) → b ≡ true
     go true e = refl
-    go false e = let z : ◌≡◌ {A = ℕ} 0 1 = cc in absurd (omega arith)
+    go false e = absurd (grind arith)
 
 -- a parameter's label that is a proposition of a number is that proposition's
 proposition_label : (l : Option own.Label) (number : ℕ)
     → ((props : ℕ → Prop ℕ) → of_label single (parameter_meant props l) ≡ single (proposition (props number))) → l ≡ Some (Proposition number)
 unfolding of_label
 proposition_label None number e =
-    let f = e (λ i. True) in let z : ◌≡◌ {A = ℕ} 0 1 = cc in absurd (omega arith)
+    let f = e (λ i. True) in absurd (grind arith)
 proposition_label (Some (Proposition n)) number e =
     let same : number ≡ n = same_number number n (λ props. let f = e props in cc) in cc
 proposition_label (Some (Datatype d)) number e =
-    let f = e (λ i. True) in let z : ◌≡◌ {A = ℕ} 0 1 = cc in absurd (omega arith)
+    let f = e (λ i. True) in absurd (grind arith)
 
 no_label : {A : Type 0} (l : A) → ◌≡◌ {A = List A} [] (l ∷ []) → ⊥
 no_label l e = let z : ◌≡◌ {A = ℕ} 0 1 = ap length e in omega arith

@@ -91,16 +91,16 @@ pub wrapped : {pairs before after : List ℕ} {k used next at : ℕ} (c : Conclu
     → Made (λ props part. TypeAscription (part (used - 1)) (proposition (props at))) before used after next
     → Wrapped pairs k before used after c (Ok next)
 wrapped {pairs} {at = at} (PropIsTrue p) is made = let here : at ≡ pair_offset pairs p = cc in ascribes (rw here at made)
-wrapped (TypeJudgement x) is made = let z : ◌≡◌ {A = ℕ} 0 1 = cc in absurd (omega arith)
+wrapped (TypeJudgement x) is made = absurd (grind arith)
 
 pub not_wrapped : {pairs before after : List ℕ} {k used : ℕ} {r : Refusal} (c : Conclusion) → offset_of pairs c ≡ None
     → r ≡ record { number = 13; place = k } → Wrapped pairs k before used after c (Err r)
-not_wrapped (PropIsTrue p) none is = let z : ◌≡◌ {A = ℕ} 0 1 = cc in absurd (omega arith)
+not_wrapped (PropIsTrue p) none is = absurd (grind arith)
 not_wrapped (TypeJudgement x) none is = wrapping.refuses is
 
 pub offset_fits : {pairs : List ℕ} {at : ℕ} (c : Conclusion) → Paired pairs c → offset_of pairs c ≡ Some at → at < 65536
 offset_fits {pairs} {at} (PropIsTrue p) paired is = let here : at ≡ pair_offset pairs p = cc in rw here (paired.fits p refl)
-offset_fits (TypeJudgement x) paired is = let z : ◌≡◌ {A = ℕ} 0 1 = cc in absurd (omega arith)
+offset_fits (TypeJudgement x) paired is = absurd (grind arith)
 
 -- what ascribing a term comes to
 pub data Ascription (names : ℕ) (pairs code : List ℕ) (k : ℕ) (c : Conclusion) (m : ProofTreeConclusion ℕ) (before : List ℕ) (used : ℕ) (after : List ℕ) : Result ℕ Refusal → Type 0 where

@@ -16,7 +16,7 @@ use Rattle.proof_tree.specs.Table.{ending_of, term_of, part_count, fewest, most,
 same_at : {A B C : Type 0} (f : A → C) (g : B → C) (l : List A) (m : List B) (a : A) (b : B) → map f l ≡ map g m
     → (i : ℕ) → i < length m → f (get_or l i a) ≡ g (get_or m i b)
 same_at f g l [] a b e i h = absurd (omega arith)
-same_at f g [] (y ∷ m) a b e i h = let z : ◌≡◌ {A = ℕ} 0 1 = cc in absurd (omega arith)
+same_at f g [] (y ∷ m) a b e i h = absurd (grind arith)
 same_at f g (x ∷ l) (y ∷ m) a b e zero h = cc
 same_at f g (x ∷ l) (y ∷ m) a b e (suc i) h = same_at f g l m a b (cc) i (omega arith)
 

@@ -30,11 +30,11 @@ pub term_of : {names : ℕ} {pairs code records : List ℕ} {k : ℕ} {outcome :
     → Answered names pairs code records k outcome before used parts least most after r → r ≡ Ok next
     → ExportedTerm names pairs code records k outcome before used parts least most after next
 term_of {next = next} (gives {next = n} t) e = let same : n ≡ next = cc in rw same at t
-term_of (refuses h) e = let z : ◌≡◌ {A = ℕ} 0 1 = cc in absurd (omega arith)
+term_of (refuses h) e = absurd (grind arith)
 
 pub refusal_of : {names : ℕ} {pairs code records : List ℕ} {k : ℕ} {outcome : Outcome (ProofTerm ℕ)} {before : List ℕ} {used : ℕ} {parts : (ℕ → Prop ℕ) → List (ProofTerm ℕ)} {least most : ℕ} {after : List ℕ} {r : Result ℕ Refusal} {x : Refusal}
     → Answered names pairs code records k outcome before used parts least most after r → r ≡ Err x → outcome ≡ refused x
-refusal_of (gives t) e = let z : ◌≡◌ {A = ℕ} 0 1 = cc in absurd (omega arith)
+refusal_of (gives t) e = absurd (grind arith)
 refusal_of (refuses h) e = cc
 
 -- an answer that is the refusal

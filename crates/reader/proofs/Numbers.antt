@@ -20,10 +20,10 @@ module _ (s : List ℕ) (at : ℕ) where
   -- the definition's test, both ways
   tested_end : (t : Bool) → ltb (length s - at) 2 ≡ t → None ≡ cond t None (Some (number_at s at)) → length s < at + 2
   tested_end true e h = let left : length s - at < 2 = ltb-true _ _ e in omega arith
-  tested_end false e h = let z : ◌≡◌ {A = ℕ} 0 1 = cc in omega arith
+  tested_end false e h = grind arith
 
   tested_there : (n : ℕ) (t : Bool) → ltb (length s - at) 2 ≡ t → Some n ≡ cond t None (Some (number_at s at)) → Stands s at n
-  tested_there n true e h = let z : ◌≡◌ {A = ℕ} 0 1 = cc in absurd (omega arith)
+  tested_there n true e h = absurd (grind arith)
   tested_there n false e h = let left : 2 ≤ length s - at = ltb-false _ _ e in record { before = omega arith; is = cc }
 
   -- where no number stands, fewer than its two bytes are left

@@ -105,12 +105,12 @@ step_mapped n p records k shift numbers good long room =
     by_kind true a b c =
         record {
           proposition = λ q e. let same : step_number records k 12 ≡ q = cc in rw (← same) (a refl);
-          object = λ x e. absurd (let z : ◌≡◌ {A = ℕ} 0 1 = cc in omega arith);
-          datatype = λ x e. absurd (let z : ◌≡◌ {A = ℕ} 0 1 = cc in omega arith);
+          object = λ x e. absurd (grind arith);
+          datatype = λ x e. absurd (grind arith);
         }
     by_kind false a b c =
         record {
-          proposition = λ q e. absurd (let z : ◌≡◌ {A = ℕ} 0 1 = cc in omega arith);
+          proposition = λ q e. absurd (grind arith);
           object = λ x e. let same : step_number records k 12 ≡ x.name = cc in rw (← same) (b refl);
           datatype = λ x e. let same : step_number records k 16 ≡ x.datatype = cc in rw (← same) (c refl);
         }

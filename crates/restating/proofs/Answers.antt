@@ -65,7 +65,7 @@ module _ (s : List ℕ) (g : Given) (room : ℕ) {before after : List ℕ} {r : 
     where
       go : (o : Outcome (List ℕ)) → restate_answer s g room ≡ o → slots ≡ slots_after (restate_answer s g room) slots
       go (refused y) is = rw is
-      go (accepted a) is = let answer = (said (accepted a) is).1 in absurd (let z : ◌≡◌ {A = ℕ} 0 1 = cc in omega arith)
+      go (accepted a) is = let answer = (said (accepted a) is).1 in absurd (grind arith)
 
   -- an index of the old names is that of the new sheet's
   pub slots-built : {n : ℕ} → r ≡ Ok n → (old : List ℕ) {slots : List ℕ} → slots ≡ index_of s → slots ≡ slots_after (restate_answer s g room) old
@@ -73,7 +73,7 @@ module _ (s : List ℕ) (g : Given) (room : ℕ) {before after : List ℕ} {r : 
   slots-built e old {slots} built = go (restate_answer s g room) refl
     where
       go : (o : Outcome (List ℕ)) → restate_answer s g room ≡ o → slots ≡ slots_after (restate_answer s g room) old
-      go (refused y) is = let answer = (said (refused y) is).1 in absurd (let z : ◌≡◌ {A = ℕ} 0 1 = cc in omega arith)
+      go (refused y) is = let answer = (said (refused y) is).1 in absurd (grind arith)
       go (accepted a) is = rw is (built ∙ sym (answer_restates s g room a is).answers.same_index)
 
   -- the bytes of an accepted answer are those of a sheet that restates the old one
@@ -82,7 +82,7 @@ module _ (s : List ℕ) (g : Given) (room : ℕ) {before after : List ℕ} {r : 
   bytes-restate n e = go (restate_answer s g room) refl
     where
       go : (o : Outcome (List ℕ)) → restate_answer s g room ≡ o → Restates s g (take n after)
-      go (refused y) is = let answer = (said (refused y) is).1 in absurd (let z : ◌≡◌ {A = ℕ} 0 1 = cc in omega arith)
+      go (refused y) is = let answer = (said (refused y) is).1 in absurd (grind arith)
       go (accepted a) is =
           let (_, answer, memory) = said (accepted a) is in
           let long : length a ≡ n = cc in

@@ -102,6 +102,6 @@ module _ (s : List ℕ) (g : Given) (root : admitted s ≡ accepted (root_of s))
   steps_left e = leb-false step_limit (steps s) (go (bad_step (names s) (propositions s) step 0) (leb step_limit (steps s)) (leb tree_nesting_limit (height (root_of s))) (root_compared s step) e)
     where
       go : (bad full deep : Bool) (o : Outcome Bool) → accepted true ≡ (refuse_if bad 23 0 >>= λ _. refuse_if (full || deep) 24 0 >>= λ _. o) → full ≡ false
-      go true full deep o h = absurd (let z : ◌≡◌ {A = ℕ} 0 1 = cc in omega arith)
-      go false true deep o h = absurd (let z : ◌≡◌ {A = ℕ} 0 1 = cc in omega arith)
+      go true full deep o h = absurd (grind arith)
+      go false true deep o h = absurd (grind arith)
       go false false deep o h = refl

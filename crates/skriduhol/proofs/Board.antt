@@ -29,7 +29,7 @@ text_printed : (s : List ℕ) (o : Outcome (List ℕ)) {before after : List ℕ}
     → Prints (printed s o) before after n
 unfolding printed filled_of filled
 text_printed s (accepted a) fills e = record { size = cc; memory = fills.memory }
-text_printed s (refused x) fills e = absurd (let y : ◌≡◌ {A = ℕ} 0 1 = cc in omega arith)
+text_printed s (refused x) fills e = absurd (grind arith)
 
 -- a refused one leaves the memory for the refusal's line, which is short
 line_printed : (s : List ℕ) (o : Outcome (List ℕ)) {before mid after : List ℕ} {r : Result ℕ Located} {l : Located} {n : ℕ} → 34 ≤ length before
@@ -39,7 +39,7 @@ line_printed : (s : List ℕ) (o : Outcome (List ℕ)) {before mid after : List 
     → length (refusal_line l) ≤ 34
     → Prints (printed s o) before after n
 unfolding printed filled_of filled
-line_printed s (accepted a) room fills e line short = absurd (let y : ◌≡◌ {A = ℕ} 0 1 = cc in omega arith)
+line_printed s (accepted a) room fills e line short = absurd (grind arith)
 line_printed s (refused y) {before} {l = l} room fills e line short =
     let same : l ≡ located s y = cc in
     let fits : length (refusal_line l) ≤ length before = omega arith in

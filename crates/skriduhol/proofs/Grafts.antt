@@ -38,7 +38,7 @@ module _ (h d : List ℕ) where
   pub length_told : (m : Result ℕ (Whose × Refusal)) {r : Result ℕ (Whose × Located)} {n : ℕ} → r ≡ back_by m → r ≡ Ok n → m ≡ Ok n
   unfolding back_by
   length_told (Ok x) e is = cc
-  length_told (Err x) e is = absurd (let z : ◌≡◌ {A = ℕ} 0 1 = cc in omega arith)
+  length_told (Err x) e is = absurd (grind arith)
 
   pub merged_back : (o : graft.Grafted) → back_by (merged_of o) ≡ grafted_of h d o
   unfolding back_by merged_of grafted_of
@@ -54,9 +54,9 @@ module _ (h d : List ℕ) (k room : ℕ) where
       go : {A B : Type 0} (a : Outcome A) (b : Outcome B) (c : Outcome (List ℕ))
           → by Host a (λ _. by Donor b (λ _. by Neither c merged)) ≡ refused_by Host x → a ≡ refused x
       go (refused y) b c f = cc
-      go (accepted y) (refused z) c f = absurd (let n : ◌≡◌ {A = ℕ} 0 1 = cc in omega arith)
-      go (accepted y) (accepted z) (refused w) f = absurd (let n : ◌≡◌ {A = ℕ} 0 1 = cc in omega arith)
-      go (accepted y) (accepted z) (accepted w) f = absurd (let n : ◌≡◌ {A = ℕ} 0 1 = cc in omega arith)
+      go (accepted y) (refused z) c f = absurd (grind arith)
+      go (accepted y) (accepted z) (refused w) f = absurd (grind arith)
+      go (accepted y) (accepted z) (accepted w) f = absurd (grind arith)
 
   by_donor : {x : Refusal} → graft_answer h d k room ≡ refused_by Donor x → admitted d ≡ refused x
   unfolding graft_answer by
@@ -64,10 +64,10 @@ module _ (h d : List ℕ) (k room : ℕ) where
     where
       go : {A B : Type 0} (a : Outcome A) (b : Outcome B) (c : Outcome (List ℕ))
           → by Host a (λ _. by Donor b (λ _. by Neither c merged)) ≡ refused_by Donor x → b ≡ refused x
-      go (refused y) b c f = absurd (let n : ◌≡◌ {A = ℕ} 0 1 = cc in omega arith)
+      go (refused y) b c f = absurd (grind arith)
       go (accepted y) (refused z) c f = cc
-      go (accepted y) (accepted z) (refused w) f = absurd (let n : ◌≡◌ {A = ℕ} 0 1 = cc in omega arith)
-      go (accepted y) (accepted z) (accepted w) f = absurd (let n : ◌≡◌ {A = ℕ} 0 1 = cc in omega arith)
+      go (accepted y) (accepted z) (refused w) f = absurd (grind arith)
+      go (accepted y) (accepted z) (accepted w) f = absurd (grind arith)
 
   module _ {before after : List ℕ} {m : Result ℕ (Whose × Refusal)} (f : FillsBy (graft_answer h d k room) before after m) where
     refused_by_lem : {w : Whose} {x : Refusal} → m ≡ Err (w, x) → graft_answer h d k room ≡ refused_by w x
@@ -80,7 +80,7 @@ module _ (h d : List ℕ) (k room : ℕ) where
             let same : v ≡ w = sym (ap (λ (p : Whose × Refusal). p.0) both) in
             let other : y ≡ x = sym (ap (λ (p : Whose × Refusal). p.1) both) in
             rw (same, other)
-        go (merged a) g = absurd (let n : ◌≡◌ {A = ℕ} 0 1 = cc in omega arith)
+        go (merged a) g = absurd (grind arith)
 
     pub after_headers : {w : Whose} {x : Refusal} → m ≡ Err (w, x) → (w ≡ Host → AfterHeader h x) × (w ≡ Donor → AfterHeader d x)
     after_headers {w} {x} e =

@@ -23,11 +23,11 @@ use Rattle.skriduhol.proofs.Located.{refuses_back}
 pub version_of_lem : (s : List ℕ) (o : Outcome Version) {v : Version} → asked_of s o ≡ Ok v → o ≡ accepted v
 unfolding asked_of
 version_of_lem s (accepted w) e = cc
-version_of_lem s (refused r) e = let no : ◌≡◌ {A = ℕ} 0 1 = cc in absurd (omega arith)
+version_of_lem s (refused r) e = absurd (grind arith)
 
 pub refusal_of : (s : List ℕ) (o : Outcome Version) {l : Located} → asked_of s o ≡ Err l → (x : Refusal) × (o ≡ refused x) × (l ≡ located s x)
 unfolding asked_of
-refusal_of s (accepted w) e = let no : ◌≡◌ {A = ℕ} 0 1 = cc in absurd (omega arith)
+refusal_of s (accepted w) e = absurd (grind arith)
 refusal_of s (refused r) e = (r, refl, cc)
 
 -- Of a number, a sheet's bytes, and what the program answers of the number:

@@ -29,7 +29,7 @@ module _ (h d : List ℕ) {r : Result ℕ (Whose × Located)} where
   pub length_handed : {n value column result : ℕ} → r ≡ Ok n → HandsNumber n value column result → (o : graft.Grafted) → r ≡ grafted_of h d o
       → HandsBy h d o value column 0 result
   unfolding number_by value_by whose_by column_by grafted_of
-  length_handed e parts (refused_by w x) g = absurd (let z : ◌≡◌ {A = ℕ} 0 1 = cc in omega arith)
+  length_handed e parts (refused_by w x) g = absurd (grind arith)
   length_handed {n} e parts (merged m) g =
       let long : n ≡ length m = cc in
       record { number = parts.number; said = parts.said ∙ long; drawn = parts.drawn; by = refl }
@@ -46,7 +46,7 @@ module _ (h d : List ℕ) {r : Result ℕ (Whose × Located)} where
       let value-is = parts.place in
       let column-is = parts.drawn in
       record { number = cc; said = cc; drawn = cc; by = cc }
-  refusal_handed e parts by-whom (merged m) g = absurd (let z : ◌≡◌ {A = ℕ} 0 1 = cc in omega arith)
+  refusal_handed e parts by-whom (merged m) g = absurd (grind arith)
 
 -- Of two sheets, a step of the first, and what is handed over:
 module _ (h d : List ℕ) (k : ℕ) {r : Result ℕ (Whose × Located)} {value column whose result : ℕ}

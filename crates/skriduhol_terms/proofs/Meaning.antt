@@ -86,7 +86,7 @@ module _ (list text records names code : List ℕ) {records' names' code' : List
       let room = enough records names code t fits in
       let same : size_of t ≡ size = cc h.answer in
       rw (← same) (reads_by_place (names_in list) read (stored h room) (marked_all h room))
-  by_outcome (refused n) is h size e = absurd (let z : ◌≡◌ {A = ℕ} 0 1 = cc h.answer in omega arith)
+  by_outcome (refused n) is h size e = absurd (grind (arith, h.answer))
 
   -- the law: what an answer hands over means the term that was read
   pub means_term : ReadsOf list text records names code records' names' code' r → MeansTerm list text records' names' code' r

@@ -29,11 +29,11 @@ known_numbers names propositions true one rest p x e =
           let below : p < propositions = leb-false _ _ (or_parts _ _ e).0 in
           let number : p ≡ q = cc in
           omega arith;
-      judgement = λ y same. absurd (let z : ◌≡◌ {A = ℕ} 0 1 = cc in omega arith);
+      judgement = λ y same. absurd (grind arith);
     }
 known_numbers names propositions false true rest p x e =
     record {
-      proposition = λ q same. absurd (let z : ◌≡◌ {A = ℕ} 0 1 = cc in omega arith);
+      proposition = λ q same. absurd (grind arith);
       judgement = λ y same.
           let numbers : x ≡ y = cc in
           let (object, datatype) = or_parts _ _ e in

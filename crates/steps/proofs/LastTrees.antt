@@ -10,16 +10,16 @@ use Rattle.definitions.specs.Tree.{ProofTree, Premisses, ◌and◌, count, last_
 pub one_more : (n : ℕ) {t : ProofTree ℕ} (ts us : List (ProofTree ℕ)) (ps : Premisses ℕ)
     → drop n ts ≡ t ∷ us → last_trees (suc n) ts ps ≡ t and last_trees n ts ps
 unfolding last_trees
-one_more zero [] us ps e = let z : ◌≡◌ {A = ℕ} 0 1 = cc in absurd (omega arith)
+one_more zero [] us ps e = absurd (grind arith)
 one_more zero (s ∷ ts) us ps e = cc
-one_more (suc n) [] us ps e = let z : ◌≡◌ {A = ℕ} 0 1 = cc in absurd (omega arith)
+one_more (suc n) [] us ps e = absurd (grind arith)
 one_more (suc n) (s ∷ ts) us ps e = one_more n ts us (s and ps) e
 
 -- past its end there is none
 pub no_more : (n : ℕ) (ts : List (ProofTree ℕ)) (ps : Premisses ℕ) → drop n ts ≡ [] → last_trees (suc n) ts ps ≡ last_trees n ts ps
 unfolding last_trees
 no_more zero [] ps e = refl
-no_more zero (t ∷ ts) ps e = let z : ◌≡◌ {A = ℕ} 0 1 = cc in absurd (omega arith)
+no_more zero (t ∷ ts) ps e = absurd (grind arith)
 no_more (suc n) [] ps e = refl
 no_more (suc n) (t ∷ ts) ps e = no_more n ts (t and ps) e
 

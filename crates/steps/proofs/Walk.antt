@@ -69,4 +69,4 @@ module _ {records : List ℕ} {k j p : ℕ} (w : Walk records k j p) where
   walk_in e h = let n : p ≡ 0 → ⊥ = λ z. clash (walk_out z h 0 [] []) in omega arith
     where
       clash : too_few_trees 0 [] [] records k ≡ true → ⊥
-      clash f = let z : ◌≡◌ {A = ℕ} 0 1 = cc in omega arith
+      clash f = grind arith

@@ -124,7 +124,7 @@ module _ (number : Name → ℕ) (count : ℕ) where
 
   -- the proposition of a label that was read has a code: its ids are 0
   small_id : (b : Bool) (x : Name) (i : ℕ) → Instantiated x i ≡ cond b (Uninstantiated x) (Instantiated x 0) → i < 65536
-  small_id true x i e = let z : ◌≡◌ {A = ℕ} 0 1 = cc in absurd (omega arith)
+  small_id true x i e = absurd (grind arith)
   small_id false x i e = let z : i ≡ 0 = cc in omega arith
 
   parameter_codable : (bound : List Name) (p : PropParameter Name) → p ≡ parameter_named bound (parameter_name p) → number (parameter_name p) < count
