@@ -8,4 +8,4 @@ mod writer;
 
 pub use counter::Counter;
 pub use sink::Sink;
-pub use writer::Writer;
+pub use writer::{Writer, store_u16};

@@ -1,11 +1,12 @@
 // The sink that writes into lent memory.
 #![tactic(auto)]
 
-ghost use Rattle.std.specs.Prelude.{[], ◌∷◌, ◌≡◌, ◌-◌, ◌^◌, ◌<◌, ◌≤◌, min, length, take};
+ghost use Rattle.std.specs.Prelude.{[], ◌∷◌, ◌≡◌, ◌-◌, ◌^◌, ◌<◌, ◌≤◌, true, min, length, take};
 ghost use Rattle.std.proofs.lemmas.List.Edits.{sets};
-ghost use Rattle.output.specs.Wrote.{Wrote};
+ghost use Rattle.definitions.specs.Code.{u16};
+ghost use Rattle.output.specs.Wrote.{puts, Wrote};
 
-use crate::sink::Sink;
+use crate::sink::{Sink, put_u16};
 
 // Lent memory, and the position of what is put next, which is past the end once something did not fit. What does not fit is dropped.
 // The position is a number and no Option: a caller may begin past the end, and to put nothing there changes nothing.
@@ -76,4 +77,12 @@ fn copy<T: Copy + Drop>(out: &mut [T], to: usize, part: &[T])
     if 0 < part.len() {
         out[to..to + part.len()].copy_from_slice(part);
     }
+}
+
+// A number of a sheet in lent memory, from a place on, as far as there is room.
+#[tactic(auto, unfolding(crate::specs::Wrote::puts))]
+pub fn store_u16(memory: &mut [u8], to: usize, n: u16)
+    ensures { memory.new ≡ sets memory.old to (u16 n) }
+{
+    put_u16(&mut Writer { out: memory, to }, n);
 }
