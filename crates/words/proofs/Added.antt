@@ -9,8 +9,9 @@ use lib.Seq.{take-take}
 use Rattle.definitions.specs.Name.{Name, eq_name}
 use Rattle.definitions.specs.Sheet.{pair_size}
 use Rattle.definitions.specs.Text.{occurs, firsts_after, firsts}
-use Rattle.words.specs.declared.NameTable.{NameTable}
-use Rattle.words.specs.Table.{add_name, added, number_in, table_names, Noted}
+use Rattle.words.specs.declared.name_table.NameTable.{NameTable}
+use Rattle.words.specs.Names.{add_name, added, number_in}
+use Rattle.words.specs.Table.{table_names, Noted}
 
 -- part by part
 pub added_append : (seen xs ys : List Name) → added seen (xs ++ ys) ≡ added (added seen xs) ys
@@ -69,11 +70,10 @@ kept_twice pairs mid after count some h first second =
     ∙ (ap (take (4 * count)) second ∙ (take-take (4 * count) (4 * some) mid le ∙ first))
 
 -- names are noted and then others
-pub noted_then : {xs ys : List Name} {text : List ℕ} {held mid after : NameTable} → Noted xs text held mid → Noted ys text mid after
-    → Noted (xs ++ ys) text held after
-noted_then {xs} {ys} {text} {held} {mid} {after} first second = record {
-  table = second.table;
-  names = second.names ∙ (ap (λ seen. added seen ys) first.names ∙ sym (added_append (table_names held text) xs ys));
+pub noted_then : {xs ys : List Name} {held mid after : NameTable} → Noted xs held mid → Noted ys mid after → Noted (xs ++ ys) held after
+noted_then {xs} {ys} {held} {mid} {after} first second = record {
+  same_text = second.same_text ∙ first.same_text;
+  names = second.names ∙ (ap (λ seen. added seen ys) first.names ∙ sym (added_append (table_names held) xs ys));
   kept = kept_twice held.pairs mid.pairs after.pairs held.count mid.count first.more first.kept second.kept;
   more = omega (arith, first.more, second.more);
 }

@@ -7,6 +7,7 @@ use native.Mathlib.Omega.{arith}
 use lib.ListN.{length, replicate}
 use Rattle.definitions.specs.Name.{Name, eq_name}
 use Rattle.definitions.specs.Sheet.{name_limit, pair_size, marked}
+use Rattle.definitions.specs.TermText.{term_text_limit}
 use Rattle.definitions.specs.NameIndex.{slot_count, free, slot_at, plain_search, find, index}
 use Rattle.definitions.proofs.Lowest.{same_lowest}
 use Rattle.name_index_laws.specs.Answered.{LowestNumber, is_lowest, there_is_none}
@@ -16,8 +17,9 @@ use Rattle.name_index_laws.proofs.Onward.{same_index}
 use Rattle.name_index_laws.specs.Indexed.{Indexed}
 use Rattle.name_index.specs.Probed.{Taken, held_or, probed}
 use Rattle.name_index.proofs.Entering.{absent_below, none_entered}
-use Rattle.words.specs.declared.NameTable.{NameTable}
-use Rattle.words.specs.Table.{Table, NoNames, searched}
+use Rattle.words.specs.declared.name_table.NameTable.{NameTable}
+use Rattle.words.specs.Names.{Table}
+use Rattle.words.specs.Table.{searched}
 
 -- What probing comes to, by what the search finds.
 module _ (name : ℕ → Name) (n : ℕ) (x : Name) where
@@ -51,47 +53,47 @@ module _ (name name' : ℕ → Name) (n : ℕ) (few : n ≤ slot_count) (same : 
   unfolding probed
   same_probed = rw (same_find, same_index name name' n same)
 
-module _ {held : NameTable} {text : List ℕ} (table : Table held text) where
-  pub few_names : held.count ≤ slot_count
+module _ {text pairs slots : List ℕ} {count : ℕ} (table : Table text pairs slots count) where
+  pub few_names : count ≤ slot_count
   unfolding name_limit slot_count
   few_names = omega (arith, table.few)
 
-  slots_index : Indexed (marked held.pairs text) held.count held.slots
-  slots_index = rw table.indexed (indexed (marked held.pairs text) held.count few_names)
+  pub slots_index : Indexed (marked pairs text) count slots
+  slots_index = rw table.indexed (indexed (marked pairs text) count few_names)
 
+  pub first_answers : (x : Name) → LowestNumber (marked pairs text) count x (find (marked pairs text) slots x)
+  first_answers x = rw table.indexed (index_answers (marked pairs text) count x few_names)
+
+module _ (held : NameTable) where
   pub slots_size : length held.slots ≡ slot_count
-  slots_size = slots_index.size
+  slots_size = (slots_index held.table).size
 
   -- a slot that is not free holds the number of a name
   pub number_below : (slot : ℕ) → Taken held.slots slot → slot_at held.slots slot < held.count
-  number_below slot taken = (slots_index.entered slot taken).0
+  number_below slot taken = ((slots_index held.table).entered slot taken).0
 
   -- what probing says of the names
   module _ (x : Name) where
-    answers : LowestNumber (marked held.pairs text) held.count x (find (marked held.pairs text) held.slots x)
-    answers = rw table.indexed (index_answers (marked held.pairs text) held.count x few_names)
-
-    pub first_held : {i : ℕ} → searched held text x ≡ Ok i → FirstName (marked held.pairs text) held.count x i
+    pub first_held : {i : ℕ} → searched held x ≡ Ok i → FirstName (marked held.pairs held.text.now) held.count x i
     unfolding searched probed
-    first_held {i} e = held_first (marked held.pairs text) held.count x _ i answers e
+    first_held {i} e = held_first (marked held.pairs held.text.now) held.count x _ i (first_answers held.table x) e
 
-    pub none_held : {slot : ℕ} → searched held text x ≡ Err slot → (i : ℕ) → i < held.count → marked held.pairs text i ≡ x → ⊥
+    pub none_held : {slot : ℕ} → searched held x ≡ Err slot → (i : ℕ) → i < held.count → marked held.pairs held.text.now i ≡ x → ⊥
     unfolding searched probed
-    none_held {slot} e = absent (marked held.pairs text) held.count x _ slot answers e
+    none_held {slot} e = absent (marked held.pairs held.text.now) held.count x _ slot (first_answers held.table x) e
 
-    pub slot_inside : {slot : ℕ} → searched held text x ≡ Err slot → slot < slot_count
+    pub slot_inside : {slot : ℕ} → searched held x ≡ Err slot → slot < slot_count
     unfolding searched
     slot_inside e = absent_below _ _ _ e
 
 -- A table without names: every slot is free.
-pub no_names : {held : NameTable} → length held.pairs ≡ pair_size * name_limit → held.slots ≡ replicate slot_count free → held.count ≡ 0 → NoNames held
+pub no_names : {text pairs slots : List ℕ} → length text ≤ term_text_limit → length pairs ≡ pair_size * name_limit
+    → slots ≡ replicate slot_count free → Table text pairs slots 0
 unfolding name_limit
-no_names {held} room slots none = record {
-  none = none;
-  table = λ text. record {
-    room = room;
-    few = omega (arith, none);
-    ends = λ j l. absurd (omega (arith, none));
-    indexed = rw none (none_entered (marked held.pairs text) slots);
-  };
+no_names {text} {pairs} short room free = record {
+  short = short;
+  room = room;
+  few = omega arith;
+  ends = λ j l. absurd (omega arith);
+  indexed = none_entered (marked pairs text) free;
 }

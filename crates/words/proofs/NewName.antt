@@ -6,26 +6,22 @@ use native.Mathlib.Omega.{arith}
 use native.Mathlib.Numerals.{add-one}
 use borrow.Author.Count.{below_more}
 use lib.ListN.{length, set, take}
+use Rattle.definitions.specs.Name.{Name}
 use Rattle.definitions.specs.Sheet.{name_limit, pair_size, pair_offset, pair_length, pair_end, marked}
 use Rattle.definitions.specs.NameIndex.{index}
 use Rattle.name_index_laws.proofs.Onward.{same_index}
 use Rattle.std.specs.Prelude.{Err}
 use Rattle.name_index.specs.Probed.{probed}
 use Rattle.name_index.proofs.Entering.{entered}
-use Rattle.words.specs.declared.NameTable.{NameTable}
+use Rattle.words.specs.declared.name_table.NameTable.{NameTable}
 use Rattle.words.specs.Places.{between}
-use Rattle.words.specs.Table.{add_name, added, number_in, first_names, table_names, Table, NamePlace, searched, NumberOf, PairFits, with_number, with_pair}
+use Rattle.words.specs.Names.{add_name, added, number_in, first_names, Table, NamePlace, PairFits, with_number, with_pair}
+use Rattle.words.specs.Table.{table_names, searched, NumberOf}
 use Rattle.words.proofs.Stored.{stored_length, stored_kept, stored_number, other_number}
 use Rattle.words.proofs.Indexing.{few_names, same_probed}
 use Rattle.words.proofs.Numbers.{names_length, end_kept, marked_kept, names_kept, unmet_name}
 
-module _ {held : NameTable} {text : List ℕ} {at end : ℕ} (table : Table held text) (room : held.count ≡ name_limit → ⊥) (place : NamePlace text at end) where
-  abbrev pairs : List ℕ
-  pairs = held.pairs
-
-  abbrev count : ℕ
-  count = held.count
-
+module _ {text pairs slots : List ℕ} {count at end : ℕ} (table : Table text pairs slots count) (room : count ≡ name_limit → ⊥) (place : NamePlace text at end) where
   one_less : count < name_limit
   one_less = omega (arith, table.few, room)
 
@@ -35,7 +31,7 @@ module _ {held : NameTable} {text : List ℕ} {at end : ℕ} (table : Table held
     room = omega (arith, table.room, one_less);
     some = place.some;
     few = place.few;
-    near = omega (arith, place.within, place.short);
+    near = omega (arith, place.within, table.short);
   }
 
   -- the pair
@@ -84,41 +80,54 @@ module _ {held : NameTable} {text : List ℕ} {at end : ℕ} (table : Table held
   same_marked i l = sym (marked_kept pairs paired text count paired_kept i l)
 
   -- and the number
-  module _ {slot : ℕ} (absent : searched held text (between at end text) ≡ Err slot) where
-    abbrev after : NameTable
-    after = record { pairs = paired; slots = set held.slots slot count; count = count + 1 }
-
-    earlier_same : held.slots ≡ index (marked paired text) count
+  module _ {slot : ℕ} (absent : probed (marked pairs text) slots (between at end text) ≡ Err slot) where
+    earlier_same : slots ≡ index (marked paired text) count
     earlier_same = table.indexed ∙ same_index (marked pairs text) (marked paired text) count same_marked
 
     probed_same : probed (marked paired text) (index (marked paired text) count) (between at end text) ≡ Err slot
-    unfolding searched
     probed_same =
         let here : probed (marked pairs text) (index (marked pairs text) count) (between at end text) ≡ Err slot = rw table.indexed at absent in
         sym (same_probed (marked pairs text) (marked paired text) count (few_names table) same_marked (between at end text)) ∙ here
 
-    slots_after : set held.slots slot count ≡ index (marked paired text) (count + 1)
+    slots_after : set slots slot count ≡ index (marked paired text) (count + 1)
     slots_after = rw earlier_same (entered (marked paired text) count refl one_less (sym new_marked) probed_same)
 
-    table_after : Table after text
+    pub table_after : Table text paired (set slots slot count) (count + 1)
     table_after = record {
+      short = table.short;
       room = paired_length;
       few = omega (arith, one_less);
       ends = ends_paired;
       indexed = slots_after;
     }
 
-    names_after : table_names after text ≡ between at end text ∷ table_names held text
-    unfolding table_names first_names
-    names_after = rw (add-one count, new_marked, names_kept pairs paired text count paired_kept count (omega arith))
+-- The table with it:
+module _
+    (held : NameTable) {at end : ℕ} (room : held.count ≡ name_limit → ⊥) (place : NamePlace held.text.now at end)
+    {slot : ℕ} (absent : searched held (between at end held.text.now) ≡ Err slot)
+    (after : NameTable) (same : after.text ≡ held.text) (pairs_are : after.pairs ≡ with_pair held.pairs held.count at end) (count_is : after.count ≡ held.count + 1)
+  where
+    abbrev name : Name
+    name = between at end held.text.now
 
-    pub one_more : NumberOf (between at end text) text held after count
+    after_kept : take (pair_size * held.count) after.pairs ≡ take (pair_size * held.count) held.pairs
+    after_kept = rw pairs_are (paired_kept held.table room place)
+
+    after_marked : marked after.pairs held.text.now held.count ≡ name
+    after_marked = rw pairs_are (new_marked held.table room place)
+
+    names_after : table_names after ≡ name ∷ table_names held
+    unfolding table_names first_names
+    names_after =
+        rw (count_is, same, add-one held.count, after_marked, names_kept held.pairs after.pairs held.text.now held.count after_kept held.count (omega arith)) refl
+
+    pub one_more : NumberOf name held after held.count
     unfolding add_name added number_in
     one_more =
-        let unmet = unmet_name table (between at end text) absent in
+        let unmet = unmet_name held name absent in
         record {
-          noted = record { table = table_after; names = rw unmet names_after; kept = paired_kept; more = omega arith };
-          number_is = rw (unmet, unmet) (sym (names_length held text));
-          below = omega arith;
-          marks = new_marked;
+          noted = record { same_text = same; names = rw unmet names_after; kept = after_kept; more = omega (arith, count_is) };
+          number_is = rw (unmet, unmet) (sym (names_length held));
+          below = omega (arith, count_is);
+          marks = rw same after_marked;
         }

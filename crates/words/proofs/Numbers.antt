@@ -13,8 +13,9 @@ use Rattle.definitions.specs.Sheet.{name_limit, pair_size, number_at, pair_offse
 use Rattle.definitions.specs.Text.{occurs}
 use Rattle.definitions.proofs.Names.{eq_name_of_eq, eq_name_of_ne}
 use Rattle.std.specs.Prelude.{Ok, Err}
-use Rattle.words.specs.declared.NameTable.{NameTable}
-use Rattle.words.specs.Table.{add_name, added, number_in, first_names, table_names, Table, searched, TooMany, NumberOf}
+use Rattle.words.specs.declared.name_table.NameTable.{NameTable}
+use Rattle.words.specs.Names.{add_name, added, number_in, first_names}
+use Rattle.words.specs.Table.{table_names, searched, TooMany, NumberOf}
 use Rattle.words.proofs.Indexing.{first_held, none_held}
 
 module _ (pairs text : List ℕ) where
@@ -73,30 +74,30 @@ module _ (pairs after text : List ℕ) (count : ℕ) (kept : take (pair_size * c
   names_kept (suc n) h = rw (marked_kept n (omega arith), names_kept n (omega arith))
 
 -- as many names as the table has
-pub names_length : (held : NameTable) (text : List ℕ) → length (table_names held text) ≡ held.count
+pub names_length : (held : NameTable) → length (table_names held) ≡ held.count
 unfolding table_names
-names_length held text = firsts_length held.pairs text held.count
+names_length held = firsts_length held.pairs held.text.now held.count
 
 -- The name was met before, or there is room for no more.
-module _ {held : NameTable} {text : List ℕ} (table : Table held text) (x : Name) where
-  pub found_again : {i : ℕ} → searched held text x ≡ Ok i → NumberOf x text held held i
+module _ (held : NameTable) (x : Name) where
+  pub found_again : {i : ℕ} → searched held x ≡ Ok i → NumberOf x held held i
   unfolding added add_name table_names
   found_again {i} e =
-      let found = first_held table x e in
-      let all = among held.pairs text x i found.same (unmet held.pairs text x i found.earlier) held.count found.below in
+      let found = first_held held x e in
+      let all = among held.pairs held.text.now x i found.same (unmet held.pairs held.text.now x i found.earlier) held.count found.below in
       record {
-        noted = record { table = table; names = rw all.0; kept = refl; more = omega arith };
+        noted = record { same_text = refl; names = rw all.0; kept = refl; more = omega arith };
         number_is = rw all.0 (sym all.1);
         below = found.below;
         marks = found.same;
       }
 
-  pub unmet_name : {slot : ℕ} → searched held text x ≡ Err slot → occurs eq_name x (table_names held text) ≡ false
+  pub unmet_name : {slot : ℕ} → searched held x ≡ Err slot → occurs eq_name x (table_names held) ≡ false
   unfolding table_names
-  unmet_name e = unmet held.pairs text x held.count (none_held table x e)
+  unmet_name e = unmet held.pairs held.text.now x held.count (none_held held x e)
 
-  pub none_more : {slot : ℕ} → searched held text x ≡ Err slot → held.count ≡ name_limit → TooMany x text held
+  pub none_more : {slot : ℕ} → searched held x ≡ Err slot → held.count ≡ name_limit → TooMany x held
   unfolding add_name table_names
   none_more e all =
       let unmet = unmet_name e in
-      rw unmet (omega (arith, firsts_length held.pairs text held.count))
+      rw unmet (omega (arith, firsts_length held.pairs held.text.now held.count))

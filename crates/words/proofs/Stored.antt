@@ -7,7 +7,7 @@ use lib.ListN.{length, get_or, set, take, length-set}
 use lib.Seq.{get_or-set_same, get_or-set_other, take-set-le}
 use Rattle.definitions.specs.Code.{u16}
 use Rattle.definitions.specs.Sheet.{number_at}
-use Rattle.words.specs.Table.{with_number}
+use Rattle.words.specs.Names.{with_number}
 
 module _ (memory : List ℕ) (at n : ℕ) where
   abbrev low : List ℕ

@@ -1,3 +1,4 @@
 pub mod Places
+pub mod Names
 pub mod Table
 pub mod Starts

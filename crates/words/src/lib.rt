@@ -4,23 +4,18 @@
 // each call would build a cursor and show there what it shows now, and each clause would say `drop c.at c.text.now` for `drop at text.now`.
 #![tactic(auto)]
 
-ghost use Rattle.std.specs.Prelude.{◌≡◌, ◌+◌, ◌*◌, ◌≤◌, ◌<◌, length, drop, None, MatchOption};
-ghost use Rattle.definitions.specs.Name.{eq_name};
+ghost use Rattle.std.specs.Prelude.{◌≡◌, ◌≤◌, length, drop, None, MatchOption};
 ghost use Rattle.definitions.specs.TermText.{is_admitted, all_admitted};
 ghost use Rattle.definitions.specs.CallerNames.{names_in};
-ghost use Rattle.definitions.specs.Sheet.{name_limit, pair_size, marked};
 ghost use Rattle.definitions.specs.TermReader.{name, expect, start_of, argument_follows};
-ghost use Rattle.words.specs.Places.{between, WordEnds, NameEnds, Expected};
+ghost use Rattle.words.specs.Places.{WordEnds, NameEnds, Expected};
 ghost use Rattle.words.specs.Starts.{as_start};
-ghost use Rattle.words.specs.Table.{Table, NoNames, NamePlace, TooMany, NumberOf, PairFits, searched, with_number, with_pair};
+
+mod name_table;
 
 use caller_names::{is_listed, names_in, well_formed};
 use identifier::{Class, same_name};
-use name_index::{FREE, SLOT_COUNT, probe_by};
-use number::{Marked, PAIR_SIZE};
-use output::Writer;
-use output::sink::put_u16;
-use vocabulary::NAME_LIMIT;
+pub use name_table::NameTable;
 
 // Where the name bytes from `at` on end.
 pub fn word_end(text: &[u8], at: usize) -> usize
@@ -149,97 +144,4 @@ pub fn argument_follows(text: &[u8], at: usize) -> bool
         return true;
     }
     expect(text, start, b"(").is_some()
-}
-
-// The names met in a text, in the order in which they were met: their pairs, which mark them there, and slots that are their index.
-// The slots hold numbers and `FREE`, and no Options: the laws of the index are over lists of numbers, which slots that C lends are too.
-#[derive(Drop)]
-pub struct NameTable {
-    pub pairs: [u8; PAIR_SIZE * NAME_LIMIT],
-    pub slots: [u16; SLOT_COUNT],
-    pub count: usize,
-}
-
-// Stores a number at an offset, low byte first.
-#[tactic(auto, unfolding(crate::specs::Table::with_number))]
-fn put_number(pairs: &mut [u8], at: usize, number: usize)
-    requires { (at + 1 < length pairs.old) × (number < 65536) }
-    ensures { pairs.new ≡ with_number pairs.old at number }
-{
-    put_u16(&mut Writer { out: pairs, to: at }, number as u16);
-}
-
-// Stores the pair of a name that stands from `at` to `end` as number `count`.
-fn put_pair(pairs: &mut [u8], count: usize, at: usize, end: usize)
-    requires { PairFits pairs.old count at end }
-    ensures { pairs.new ≡ with_pair pairs.old count at end }
-{
-    put_number(pairs, PAIR_SIZE * count, at);
-    put_number(pairs, PAIR_SIZE * count + 2, end - at);
-}
-
-impl NameTable {
-    // The table without names: every slot is free, and no pair is looked at.
-    pub fn new() -> NameTable
-        ensures { NoNames result }
-    {
-        NameTable {
-            pairs: [0; PAIR_SIZE * NAME_LIMIT],
-            slots: [FREE; SLOT_COUNT],
-            count: 0,
-        }
-    }
-
-    // Forgets the names.
-    pub fn clear(&mut self)
-        ensures { NoNames self.new }
-    {
-        self.slots.fill(FREE);
-        self.count = 0;
-    }
-
-    // Whether the name of a number has these bytes.
-    fn is_named(&self, text: &[u8], number: usize, name: &[u8]) -> bool
-        requires { Table self.now text.now × (number < self.now.count) }
-        ensures { result ≡ eq_name (marked self.now.pairs text.now number) name.now }
-    {
-        let names = Marked {
-            pairs: &self.pairs,
-            bytes: text,
-        };
-        same_name(names.piece(number), name)
-    }
-
-    // The number of a name with these bytes, or the slot that the name would enter.
-    #[tactic(auto, using(crate::proofs::Indexing::slots_size, crate::proofs::Indexing::number_below), unfolding(crate::specs::Table::searched))]
-    fn find(&self, text: &[u8], name: &[u8]) -> Result<usize, usize>
-        requires { Table self.now text.now }
-        ensures { result ≡ searched self.now text.now name.now }
-    {
-        probe_by(&self.slots, name, |number| {
-            self.is_named(text, number, name)
-        })
-    }
-
-    // The number of the name that stands from `at` to `end`: of the pair that marks the same bytes, or else of a new pair, which enters
-    // the index. None where there are too many names.
-    pub fn number_of_name(&mut self, text: &[u8], at: usize, end: usize) -> Option<usize>
-        requires { Table self.old text.now × NamePlace text.now at end }
-        ensures { MatchOption result (TooMany (between at end text.now) text.now self.old)
-            (NumberOf (between at end text.now) text.now self.old self.new) }
-    {
-        match self.find(text, &text[at..end]) {
-            Ok(number) => Some(number),
-            Err(slot) => {
-                let count = self.count;
-                if count == NAME_LIMIT {
-                    return None;
-                }
-                put_pair(&mut self.pairs, count, at, end);
-                self.slots[slot] = count as u16;
-                self.count = count + 1;
-                Some(count)
-            }
-        }
-    }
 }

@@ -1,36 +1,24 @@
 -- The offset, and then the length.
 use mathlib.Core.Path.{refl}
 use native.Mathlib.Omega.{arith}
-use borrow.Author.Rules.{rules}
 use Rattle.definitions.specs.Sheet.{pair_size, name_length_limit}
 use Rattle.definitions.specs.TermText.{term_text_limit}
-use Rattle.words.specs.Table.{with_pair}
-use Rattle.words.proofs.Stored.{stored_length}
-use Rattle.words.proofs.put_pair.Goals as goal
+use Rattle.words.specs.Names.{with_number, with_pair}
+use Rattle.words.proofs.name_table.put_pair.Goals as goal
 
-pub overflow_mul-count : goal.overflow_mul-count
+pub overflow_add-offset : goal.overflow_add-offset
 unfolding pair_size
-overflow_mul-count c = search rules
+overflow_add-offset c = omega (arith, c.requires.room, c.from-offset.ensures)
 
-pub put_number-requires : goal.put_number-requires
-unfolding pair_size term_text_limit
-put_number-requires c = search rules
+pub overflow_cast-at : goal.overflow_cast-at
+unfolding term_text_limit
+overflow_cast-at c = omega (arith, c.requires.some, c.requires.near)
 
-pub overflow_mul-count-2 : goal.overflow_mul-count-2
-unfolding pair_size
-overflow_mul-count-2 c = omega (arith, c.requires.room)
-
-pub overflow_add-count : goal.overflow_add-count
-unfolding pair_size
-overflow_add-count c = omega (arith, c.requires.room)
-
-pub put_number-requires-2 : goal.put_number-requires-2
-unfolding pair_size name_length_limit
-put_number-requires-2 c =
-    let pre = c.requires in
-    (rw (c.put_number.ensures, stored_length) (omega (arith, pre.room)), omega (arith, pre.few))
+pub overflow_cast-end : goal.overflow_cast-end
+unfolding name_length_limit
+overflow_cast-end c = omega (arith, c.requires.few)
 
 pub returns : goal.returns
-unfolding with_pair pair_size
+unfolding with_pair with_number pair_size
 returns c =
-    rw (c.put_number-2.ensures, c.put_number.ensures) refl
+    rw (c.store_u16-2.ensures, c.store_u16.ensures, ← c.from-offset.ensures) refl
