@@ -3,13 +3,12 @@ use Rattle.std.proofs.Common.{◌≡◌, ℕ, zero, suc, ◌≤◌, Bool, true, 
 use Rattle.std.specs.List.{list_any}
 use lib.Seq.{take-suc}
 use Rattle.definitions.specs.Text.{occurs}
-use Rattle.definitions.specs.TermText.{term_text_limit}
 use Rattle.words.specs.Places.{NameEnds}
-use Rattle.words.specs.Table.{NamePlace}
+use Rattle.words.specs.Names.{NamePlace}
 use Rattle.prop_parts.specs.Found.{bound_numbers}
 
-pub name_place : {text : List ℕ} {at end : ℕ} → NameEnds text at end → length text ≤ term_text_limit → NamePlace text at end
-name_place ends l = record { short = l; some = ends.from; few = ends.short; within = ends.within }
+pub name_place : {text : List ℕ} {at end : ℕ} → NameEnds text at end → NamePlace text at end
+name_place ends = record { some = ends.from; few = ends.short; within = ends.within }
 
 -- a number is bound where it is any of those in memory
 any_append : (test : ℕ → Bool) (l : List ℕ) (b : ℕ) → list_any test (l ++ (b ∷ [])) ≡ (test b || list_any test l)

@@ -9,8 +9,9 @@ use Rattle.definitions.specs.TermReader.{connective, top, bottom, negation, brac
 use Rattle.definitions.proofs.Readings.{given}
 use Rattle.std.proofs.lemmas.List.Edits.{sets}
 use Rattle.words.specs.Places.{between}
-use Rattle.words.specs.declared.NameTable.{NameTable}
-use Rattle.words.specs.Table.{add_name, number_in, table_names, TooMany, Noted}
+use Rattle.words.specs.declared.name_table.NameTable.{NameTable}
+use Rattle.words.specs.Names.{add_name, number_in}
+use Rattle.words.specs.Table.{table_names, TooMany, Noted}
 use Rattle.prop_parts.specs.declared.NameRead.{NameRead}
 use Rattle.prefix_code.specs.declared.Connective.{Connective}
 use Rattle.prefix_code.specs.Shape.{meant, quantifier_meant}
@@ -65,18 +66,18 @@ pub record SignAt (text : List ℕ) (at : ℕ) (g : Sign) : Type 0 where
   pub reads : sign (drop at text) ≡ given (found_sign g) (drop (at + sign_size (found_sign g)) text)
 
 -- there is no name, or one too many
-abbrev pub NameLacks : List ℕ → ℕ → NameTable → Type 0
-NameLacks text at held = (x : Read Name) → name (drop at text) ≡ Some x → TooMany x.value text held
+abbrev pub NameLacks : ℕ → NameTable → Type 0
+NameLacks at held = (x : Read Name) → name (drop at held.text.now) ≡ Some x → TooMany x.value held
 
 -- the name at a place, with its number
-pub record NameGiven (text : List ℕ) (at : ℕ) (held after : NameTable) (r : NameRead) : Type 0 where
-  pub within : r.end ≤ length text
-  pub reads : name (drop at text) ≡ given (between at r.end text) (drop r.end text)
+pub record NameGiven (at : ℕ) (held after : NameTable) (r : NameRead) : Type 0 where
+  pub within : r.end ≤ length held.text.now
+  pub reads : name (drop at held.text.now) ≡ given (between at r.end held.text.now) (drop r.end held.text.now)
   pub from : at < r.end
-  pub noted : Noted (between at r.end text ∷ []) text held after
-  pub number_is : r.number ≡ number_in (add_name (table_names held text) (between at r.end text)) (between at r.end text)
+  pub noted : Noted (between at r.end held.text.now ∷ []) held after
+  pub number_is : r.number ≡ number_in (add_name (table_names held) (between at r.end held.text.now)) (between at r.end held.text.now)
   pub below : r.number < after.count
-  pub marks : marked after.pairs text r.number ≡ between at r.end text
+  pub marks : marked after.pairs after.text.now r.number ≡ between at r.end held.text.now
 
 -- the numbers that so many quantifiers bind, the innermost in front
 unfoldable pub bound_numbers : List ℕ → ℕ → List ℕ

@@ -4,15 +4,12 @@
 #![tactic(auto)]
 
 ghost use Rattle.std.specs.Prelude.{◌≡◌, ◌≤◌, ◌<◌, [], ◌∷◌, length, drop, eqb, None, MatchOption};
-ghost use Rattle.definitions.specs.Code.{u16};
 ghost use Rattle.definitions.specs.Text.{occurs};
 ghost use Rattle.definitions.specs.TermReader.{sign, connective};
-ghost use Rattle.definitions.specs.TermText.{term_text_limit};
 ghost use Rattle.std.proofs.lemmas.List.Edits.{sets};
-ghost use Rattle.words.specs.Table.{Table};
 ghost use Rattle.prop_parts.specs.Found.{code_reach, ConnectiveAt, constant_byte, opening_sign, sign_size, SignAt, NameLacks, NameGiven, bound_numbers, kind_of, ParameterPut};
 
-use output::{Sink, Writer};
+use output::{Sink, Writer, store_u16};
 use prefix_code::{Connective, ParameterKind, Quantifier};
 use words::{NameTable, expect, name_end};
 
@@ -45,7 +42,7 @@ pub const CONNECTIVE_SIZE: usize = 5;
 #[derive(Clone, Copy)]
 pub struct NameRead {
     pub end: usize,
-    pub number: usize,
+    pub number: u16,
 }
 
 // The connective at `at`, each looked for in turn: the closure of a `find` would answer whether a text stands there, and lose what `expect`
@@ -121,14 +118,12 @@ impl Opening {
 }
 
 // The name at `at`, with its number; none where no name stands there or there are too many.
-pub fn read_name(text: &[u8], at: usize, names: &mut NameTable) -> Option<NameRead>
-    requires { Table names.old text.now
-        × (at ≤ length text.now) × (length text.now ≤ term_text_limit) }
-    ensures { MatchOption result (NameLacks text.now at names.old)
-        (NameGiven text.now at names.old names.new) }
+pub fn read_name(names: &mut NameTable, at: usize) -> Option<NameRead>
+    requires { at ≤ length names.old.text.now }
+    ensures { MatchOption result (NameLacks at names.old) (NameGiven at names.old names.new) }
 {
-    let end = name_end(text, at)?;
-    let number = names.number_of_name(text, at, end)?;
+    let end = name_end(names.text, at)?;
+    let number = names.number_of_name(at, end)?;
     Some(NameRead { end, number })
 }
 
@@ -147,19 +142,11 @@ pub fn put(code: &mut [u8], to: usize, b: u8)
     store(code, to, &[b]);
 }
 
-// A number of two bytes, low byte first.
-pub fn put_u16(code: &mut [u8], to: usize, n: usize)
-    requires { n < 65536 }
-    ensures { code.new ≡ sets code.old to (u16 n) }
-{
-    output::sink::put_u16(&mut Writer { out: code, to }, n as u16);
-}
-
 // The kind of a parameter whose name has this number, where quantifiers bind names of these numbers.
-pub fn parameter_kind(bound: &[u16], number: usize) -> ParameterKind
+pub fn parameter_kind(bound: &[u16], number: u16) -> ParameterKind
     ensures { result ≡ kind_of (occurs eqb number (bound_numbers bound.now (length bound.now))) }
 {
-    if bound.iter().any(|b| usize::from(*b) == number) {
+    if bound.contains(&number) {
         return ParameterKind::Uninstantiated;
     }
     ParameterKind::Instantiated
@@ -167,16 +154,16 @@ pub fn parameter_kind(bound: &[u16], number: usize) -> ParameterKind
 
 // The code of a parameter, instantiated with id 0 where it is not bound. Gives its size.
 #[tactic(auto, unfolding(crate::specs::Found::parameter_of, definitions::specs::Code::encode_parameter, definitions::specs::Code::u16))]
-pub fn put_parameter(code: &mut [u8], to: usize, number: usize, kind: ParameterKind) -> usize
-    requires { (to < code_reach) × (number < 65536) }
+pub fn put_parameter(code: &mut [u8], to: usize, number: u16, kind: ParameterKind) -> usize
+    requires { to < code_reach }
     ensures { ParameterPut kind number code.old to code.new result }
 {
     put(code, to, kind.byte());
-    put_u16(code, to + 1, number);
+    store_u16(code, to + 1, number);
     match kind {
         ParameterKind::Uninstantiated => 3,
         ParameterKind::Instantiated => {
-            put_u16(code, to + 3, 0);
+            store_u16(code, to + 3, 0);
             5
         }
     }
