@@ -45,22 +45,15 @@ pub struct NameRead {
     pub number: u16,
 }
 
-// The connective at `at`, each looked for in turn: the closure of a `find` would answer whether a text stands there, and lose what `expect`
-// says of the bytes behind it.
+// The connective at `at`.
 pub fn connective_at(text: &[u8], at: usize) -> Option<Connective>
     requires { at ≤ length text.now }
     ensures { MatchOption result (connective (drop at text.now) ≡ None) (ConnectiveAt text.now at) }
 {
-    if expect(text, at, Connective::And.text()).is_some() {
-        return Some(Connective::And);
-    }
-    if expect(text, at, Connective::Or.text()).is_some() {
-        return Some(Connective::Or);
-    }
-    if expect(text, at, Connective::Impl.text()).is_some() {
-        return Some(Connective::Impl);
-    }
-    None
+    [Connective::And, Connective::Or, Connective::Impl]
+        .iter()
+        .copied()
+        .find(|c| expect(text, at, c.text()).is_some())
 }
 
 // The sign at `at`, each looked for in turn: a `find` over the six would need their bytes as a function of the sign, which nothing else
