@@ -105,7 +105,7 @@ module _ {text pairs slots : List ℕ} {count at end : ℕ} (table : Table text 
 module _
     (held : NameTable) {at end : ℕ} (room : held.count ≡ name_limit → ⊥) (place : NamePlace held.text.now at end)
     {slot : ℕ} (absent : searched held (between at end held.text.now) ≡ Err slot)
-    (after : NameTable) (same : after.text ≡ held.text) (pairs_are : after.pairs ≡ with_pair held.pairs held.count at end) (count_is : after.count ≡ held.count + 1)
+    (after : NameTable) (same : after.text.now ≡ held.text.now) (pairs_are : after.pairs ≡ with_pair held.pairs held.count at end) (count_is : after.count ≡ held.count + 1)
   where
     abbrev name : Name
     name = between at end held.text.now

@@ -16,7 +16,7 @@ searched held x = probed (marked held.pairs held.text.now) held.slots x
 
 -- the names xs were looked up, and are in the table now
 pub record Noted (xs : List Name) (held after : NameTable) : Type 0 where
-  pub same_text : after.text ≡ held.text
+  pub same_text : after.text.now ≡ held.text.now
   pub names : table_names after ≡ added (table_names held) xs
   pub kept : take (pair_size * held.count) after.pairs ≡ take (pair_size * held.count) held.pairs
   pub more : held.count ≤ after.count
