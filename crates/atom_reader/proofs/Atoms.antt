@@ -16,9 +16,10 @@ use Rattle.definitions.specs.TermReader.{expect, standing, if_read, parameters_o
 use Rattle.definitions.proofs.Readings.{given}
 use Rattle.reading_laws.proofs.TermConventions.{gives_yield, gives_then}
 use Rattle.std.proofs.lemmas.List.Edits.{sets}
-use Rattle.words.specs.declared.NameTable.{NameTable}
+use Rattle.words.specs.declared.name_table.NameTable.{NameTable}
 use Rattle.words.specs.Places.{Expected}
-use Rattle.words.specs.Table.{add_name, added, number_in, table_names, Table, NamePlace, Noted, TooMany, NumberOf}
+use Rattle.words.specs.Names.{add_name, added, number_in, NamePlace}
+use Rattle.words.specs.Table.{table_names, Noted, TooMany, NumberOf}
 use Rattle.words.proofs.Added.{noted_then, met_added}
 use Rattle.atom_reader.specs.declared.Place.{Place}
 use Rattle.atom_reader.specs.declared.ParametersRead.{ParametersRead}
@@ -26,29 +27,27 @@ use Rattle.atom_reader.specs.Reading.{Begins, parameters_from, parameter_code, p
 use Rattle.atom_reader.proofs.Storing.{sets_front}
 use Rattle.atom_reader.proofs.Sizes.{atom_bytes}
 use Rattle.atom_reader.proofs.Scopes.{added_one_meets, binds_noted, crowded_first, crowded_second}
-use Rattle.atom_reader.proofs.Readings.{gives_any}
+use Rattle.atom_reader.proofs.Readings.{gives_any, gives_at}
 
 -- no names are noted
-pub noted_none : {text : List ℕ} {held : NameTable} → Table held text → Noted [] text held held
+pub noted_none : {held : NameTable} → Noted [] held held
 unfolding added
-noted_none table = record { table = table; names = refl; kept = refl; more = omega arith }
+noted_none = record { same_text = refl; names = refl; kept = refl; more = omega arith }
 
 -- where the first parameter begins
-pub parameters_begin : {text : List ℕ} {held : NameTable} {bound : List ℕ} {p : Place} {open' : ℕ} → Expected (utf8 "(") text p.at open' → Begins text held bound p 0 2
-    → Begins text held bound (record { at = open'; depth = p.depth; to = p.to }) 0 2
+pub parameters_begin : {held : NameTable} {bound : List ℕ} {p : Place} {open' : ℕ} → Expected (utf8 "(") held.text.now p.at open' → Begins held bound p 0 2
+    → Begins held bound (record { at = open'; depth = p.depth; to = p.to }) 0 2
 parameters_begin bracket pre = record {
-  short = pre.short;
   within = bracket.within;
-  table = pre.table;
   near = omega (arith, pre.near, bracket.after);
   deep = pre.deep;
   binds = pre.binds;
 }
 
 -- Whether a bracket follows the name.
-module _ (names : List Name) {text : List ℕ} {held : NameTable} {code : List ℕ} {p : Place} where
-  pub no_parameters : {bound : List ℕ} → expect (utf8 "(") (drop p.at text) ≡ None → Begins text held bound p 0 2
-      → ParametersAnswer (parameters_of names (drop p.at text)) parameter_limit 0 text held code p held code
+module _ (names : List Name) {held : NameTable} {code : List ℕ} {p : Place} where
+  pub no_parameters : {bound : List ℕ} → expect (utf8 "(") (drop p.at held.text.now) ≡ None → Begins held bound p 0 2
+      → ParametersAnswer (parameters_of names (drop p.at held.text.now)) parameter_limit 0 held code p held code
       (Some (record { end = p.at; parameters = 0; size = 0 }))
   unfolding parameters_of if_read yield parameter_code parameter_bytes encode_parameters
   no_parameters e pre = record {
@@ -57,7 +56,7 @@ module _ (names : List Name) {text : List ℕ} {held : NameTable} {code : List �
       rw e refl,
       record {
         within = pre.within;
-        noted = noted_none pre.table;
+        noted = noted_none;
         stored = refl;
         count_is = refl;
         size_is = refl;
@@ -68,10 +67,10 @@ module _ (names : List Name) {text : List ℕ} {held : NameTable} {code : List �
     );
   }
 
-  pub some_parameters : {open' : ℕ} {after : NameTable} {code' : List ℕ} (r : Option ParametersRead) → Expected (utf8 "(") text p.at open'
-      → ParametersAnswer (parameters_from names parameter_limit (drop open' text)) parameter_limit 1 text held code
+  pub some_parameters : {open' : ℕ} {after : NameTable} {code' : List ℕ} (r : Option ParametersRead) → Expected (utf8 "(") held.text.now p.at open'
+      → ParametersAnswer (parameters_from names parameter_limit (drop open' held.text.now)) parameter_limit 1 held code
       (record { at = open'; depth = p.depth; to = p.to }) after code' r
-      → ParametersAnswer (parameters_of names (drop p.at text)) parameter_limit 0 text held code p after code' r
+      → ParametersAnswer (parameters_of names (drop p.at held.text.now)) parameter_limit 0 held code p after code' r
   unfolding parameters_of parameters_from if_read
   some_parameters None bracket answer = record { answer = rw bracket.reads answer.answer }
   some_parameters (Some r) bracket answer =
@@ -94,13 +93,11 @@ module _ (names : List Name) {text : List ℕ} {held : NameTable} {code : List �
       }
 
 -- where the parameters may begin
-pub atom_place : {a : Name} {end : ℕ} {text : List ℕ} {held : NameTable} {bound : List ℕ} {after : NameTable} {p : Place} {found : ℕ}
-    → NumberOf a text held after found → Begins text held bound p 0 0 → NamePlace text p.at end
-    → Begins text after bound (record { at = end; depth = p.depth; to = p.to + 4 }) 0 2
+pub atom_place : {a : Name} {end : ℕ} {held : NameTable} {bound : List ℕ} {after : NameTable} {p : Place} {found : ℕ}
+    → NumberOf a held after found → Begins held bound p 0 0 → NamePlace held.text.now p.at end
+    → Begins after bound (record { at = end; depth = p.depth; to = p.to + 4 }) 0 2
 atom_place number pre place = record {
-  short = pre.short;
-  within = place.within;
-  table = number.noted.table;
+  within = rw number.noted.same_text place.within;
   near = omega (arith, pre.near, place.some);
   deep = pre.deep;
   binds = (pre.binds.0, binds_noted pre.binds.1 number.noted refl);
@@ -124,34 +121,34 @@ atom_stored l to seen a ps e f first second =
     rw (length_renamed (number_in seen) ps, ← e, ← f, second, first) (sets_front (atom_head _ _) l to (parameter_code seen ps))
 
 -- The name's number, and then the parameters.
-pub atom_full : (names : List Name) (a : Name) (end : ℕ) {text : List ℕ} {held : NameTable} {bound code : List ℕ} {p : Place} (after : NameTable)
-    → TooMany a text held → PropAnswer (atom_from names a (drop end text)) text held bound code p after bound code None
+pub atom_full : (names : List Name) (a : Name) (end : ℕ) {held : NameTable} {bound code : List ℕ} {p : Place} (after : NameTable)
+    → TooMany a held → PropAnswer (atom_from names a (drop end held.text.now)) held bound code p after bound code None
 unfolding atom_from ◌>>=◌ prop_names added standing
-atom_full names a end {text} {held} {p = p} after full = record {
+atom_full names a end {held} {p = p} after full = record {
   answer =
-      gives_then _ _ (parameters_of names (drop end text)) _ (gives_any _) λ ps u j.
-      gives_yield _ (standing false (Atom a ps)) u (crowded_first (table_names held text) (a ∷ []) (map parameter_name ps) full);
+      gives_then _ _ (parameters_of names (drop end held.text.now)) _ (gives_any _) λ ps u j.
+      gives_yield _ (standing false (Atom a ps)) u (crowded_first (table_names held) (a ∷ []) (map parameter_name ps) full);
   bound_kept = refl;
 }
 
-module _ (names : List Name) (a : Name) (end : ℕ) {text : List ℕ} {held : NameTable} {bound code : List ℕ} {after : NameTable} {p : Place} {found : ℕ}
-    (number : NumberOf a text held after found) {after' : NameTable} {code' : List ℕ} where
-  pub atom_not : ParametersAnswer (parameters_of names (drop end text)) parameter_limit 0 text after code
+module _ (names : List Name) (a : Name) (end : ℕ) {held : NameTable} {bound code : List ℕ} {after : NameTable} {p : Place} {found : ℕ}
+    (number : NumberOf a held after found) {after' : NameTable} {code' : List ℕ} where
+  pub atom_not : ParametersAnswer (parameters_of names (drop end after.text.now)) parameter_limit 0 after code
       (record { at = end; depth = p.depth; to = p.to + 4 }) after' code' None
-      → PropAnswer (atom_from names a (drop end text)) text held bound code p after' bound code' None
+      → PropAnswer (atom_from names a (drop end held.text.now)) held bound code p after' bound code' None
   unfolding atom_from ◌>>=◌ prop_names standing
   atom_not read = record {
     answer =
-        gives_then _ _ (parameters_of names (drop end text)) _ read.answer λ ps u j.
+        gives_then _ _ (parameters_of names (drop end held.text.now)) _ (gives_at (parameters_of names) end _ number.noted.same_text read.answer) λ ps u j.
         gives_yield _ (standing false (Atom a ps)) u
-        (crowded_second (table_names held text) (a ∷ []) (map parameter_name ps) (rw number.noted.names at j));
+        (crowded_second (table_names held) (a ∷ []) (map parameter_name ps) (rw number.noted.names at j));
     bound_kept = refl;
   }
 
-  module _ {r : ParametersRead} (read : ParametersAnswer (parameters_of names (drop end text)) parameter_limit 0 text after code
+  module _ {r : ParametersRead} (read : ParametersAnswer (parameters_of names (drop end after.text.now)) parameter_limit 0 after code
       (record { at = end; depth = p.depth; to = p.to + 4 }) after' code' (Some r))
-      {code'' : List ℕ} (headed : code'' ≡ sets code' p.to (atom_head found r.parameters)) (place : NamePlace text p.at end) where
-    pub atom_given : PropAnswer (atom_from names a (drop end text)) text held bound code p after' bound code''
+      {code'' : List ℕ} (headed : code'' ≡ sets code' p.to (atom_head found r.parameters)) (place : NamePlace held.text.now p.at end) where
+    pub atom_given : PropAnswer (atom_from names a (drop end held.text.now)) held bound code p after' bound code''
         (Some (record { end = r.end; size = 4 + r.size; nesting = 1; strength = 999; bottom = false; own = false }))
     unfolding atom_from ◌>>=◌ followed_by yield prop_names nesting precedence is_false standing
     atom_given =
@@ -159,12 +156,12 @@ module _ (names : List Name) (a : Name) (end : ℕ) {text : List ℕ} {held : Na
         record {
           answer = (
             Atom a ps,
-            rw reads refl,
+            rw (← number.noted.same_text, reads) refl,
             record {
-              within = given.within;
+              within = rw number.noted.same_text at given.within;
               noted = noted_then number.noted given.noted;
               stored = atom_stored code p.to _ a ps
-                  (number_later a (table_names held text) (map parameter_name ps) number.number_is
+                  (number_later a (table_names held) (map parameter_name ps) number.number_is
                   ∙ ap (λ seen. number_in seen a) (ap (λ seen. added seen (map parameter_name ps)) (sym number.noted.names) ∙ sym given.noted.names))
                   given.count_is given.stored headed;
               measured = record {

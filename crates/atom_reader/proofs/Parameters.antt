@@ -17,9 +17,10 @@ use Rattle.definitions.specs.TermReader.{name, expect, if_read, later_parameters
 use Rattle.definitions.proofs.Readings.{given}
 use Rattle.reading_laws.proofs.TermConventions.{gives_yield, gives_none, gives_then}
 use Rattle.std.proofs.lemmas.List.Edits.{sets}
-use Rattle.words.specs.declared.NameTable.{NameTable}
+use Rattle.words.specs.declared.name_table.NameTable.{NameTable}
 use Rattle.words.specs.Places.{between, Expected}
-use Rattle.words.specs.Table.{added, number_in, table_names}
+use Rattle.words.specs.Names.{added, number_in}
+use Rattle.words.specs.Table.{table_names}
 use Rattle.words.proofs.Added.{noted_then}
 use Rattle.prop_parts.specs.declared.NameRead.{NameRead}
 use Rattle.prop_parts.specs.Found.{NameLacks, NameGiven, bound_numbers, kind_of, parameter_of, ParameterPut}
@@ -29,7 +30,7 @@ use Rattle.atom_reader.specs.declared.ParametersRead.{ParametersRead}
 use Rattle.atom_reader.specs.Scope.{Met, Binds}
 use Rattle.atom_reader.specs.Reading.{Begins, parameters_from, parameter_code, parameter_bytes, ParametersGiven, ParameterAnswer, ParametersAnswer}
 use Rattle.atom_reader.proofs.Storing.{stored_then}
-use Rattle.atom_reader.proofs.Readings.{gives_from, gives_any, follows_none}
+use Rattle.atom_reader.proofs.Readings.{gives_from, gives_any, gives_at, follows_none}
 use Rattle.atom_reader.proofs.Sizes.{parameter_code_length}
 use Rattle.atom_reader.proofs.Scopes.{added_meets, added_one_meets, parameter_code_kept, binds_more, binds_noted, bound_number, bound_taken, crowded_first, crowded_second}
 
@@ -55,21 +56,21 @@ parameter_short (Uninstantiated x) = omega arith
 parameter_short (Instantiated x i) = omega arith
 
 -- One parameter.
-pub parameter_not : (names : List Name) {text : List ℕ} {held : NameTable} {code : List ℕ} {p : Place} (after : NameTable) → NameLacks text p.at held
-    → ParameterAnswer names text held code p after code None
+pub parameter_not : (names : List Name) {held : NameTable} {code : List ℕ} {p : Place} (after : NameTable) → NameLacks p.at held
+    → ParameterAnswer names held code p after code None
 unfolding added
-parameter_not names {text} {p = p} after lacks = record { answer = gives_from (name (drop p.at text)) _ lacks }
+parameter_not names {held} {p = p} after lacks = record { answer = gives_from (name (drop p.at held.text.now)) _ lacks }
 
-module _ {names : List Name} {text : List ℕ} {held : NameTable} {bound code : List ℕ} {after : NameTable} {p : Place} {n : NameRead}
-    (b : Binds names (table_names held text) bound p.depth) (read : NameGiven text p.at held after n) where
+module _ {names : List Name} {held : NameTable} {bound code : List ℕ} {after : NameTable} {p : Place} {n : NameRead}
+    (b : Binds names (table_names held) bound p.depth) (read : NameGiven p.at held after n) where
   module _ {code' : List ℕ} {kind : ParameterKind} {size : ℕ} (inside : p.depth ≤ length bound)
       (kind_is : kind ≡ kind_of (occurs eqb n.number (bound_numbers (take p.depth bound) (length (take p.depth bound)))))
       (put : ParameterPut kind n.number code p.to code' size) where
     abbrev x : Name
-    x = between p.at n.end text
+    x = between p.at n.end held.text.now
 
     abbrev seen : List Name
-    seen = table_names after text
+    seen = table_names after
 
     number_there : n.number ≡ number_in seen x
     unfolding added
@@ -78,7 +79,7 @@ module _ {names : List Name} {text : List ℕ} {held : NameTable} {bound code : 
     bound_there : kind ≡ kind_of (occurs eq_name x names)
     bound_there =
         let later : Binds names seen bound p.depth = rw read.noted.names (binds_more b (x ∷ []) refl) in
-        let there : occurs eq_name x seen ≡ true = rw read.noted.names (added_one_meets (table_names held text) x) in
+        let there : occurs eq_name x seen ≡ true = rw read.noted.names (added_one_meets (table_names held) x) in
         kind_is
         ∙ ap kind_of (ap (occurs eqb n.number) (bound_taken bound p.depth inside)
         ∙ (ap (λ k. occurs eqb k (bound_numbers bound p.depth)) number_there ∙ bound_number later x there))
@@ -90,7 +91,7 @@ module _ {names : List Name} {text : List ℕ} {held : NameTable} {bound code : 
         ∙ (ap (λ k. encode_parameter (parameter_of (kind_of (occurs eq_name x names)) k)) number_there
         ∙ (sym (ap encode_parameter (parameter_renamed (number_in seen) names x)) ∙ sym (append-nil _)))
 
-    pub parameter_given : ParameterAnswer names text held code p after code'
+    pub parameter_given : ParameterAnswer names held code p after code'
         (Some (record { end = n.end; parameters = 1; size = size }))
     parameter_given = record {
       answer = (
@@ -141,58 +142,56 @@ unfolding later_parameters if_read ◌>>=◌ followed_by
 later_not names most t e f = rw (e, f) refl
 
 -- none may follow
-pub none_left : (names : List Name) {text : List ℕ} {held : NameTable} {code : List ℕ} {p : Place} {most : ℕ} → most ≡ 0
-    → ParametersAnswer (parameters_from names most (drop p.at text)) most 1 text held code p held code None
+pub none_left : (names : List Name) {held : NameTable} {code : List ℕ} {p : Place} {most : ℕ} → most ≡ 0
+    → ParametersAnswer (parameters_from names most (drop p.at held.text.now)) most 1 held code p held code None
 unfolding parameters_from later_parameters ◌>>=◌ followed_by
-none_left names {text} {held} {code} {p} e =
-    record { answer = rw (e, follows_none (name (drop p.at text)) _ (λ x t. refl)) (gives_none _) }
+none_left names {held} {code} {p} e =
+    record { answer = rw (e, follows_none (name (drop p.at held.text.now)) _ (λ x t. refl)) (gives_none _) }
 
 -- the first one is not read
-pub first_not : {names : List Name} {text : List ℕ} {held : NameTable} {code : List ℕ} {mid : NameTable} {mid-code : List ℕ} {p : Place} {most : ℕ}
-    → ParameterAnswer names text held code p mid mid-code None
-    → ParametersAnswer (parameters_from names most (drop p.at text)) most 1 text held code p mid mid-code None
+pub first_not : {names : List Name} {held : NameTable} {code : List ℕ} {mid : NameTable} {mid-code : List ℕ} {p : Place} {most : ℕ}
+    → ParameterAnswer names held code p mid mid-code None
+    → ParametersAnswer (parameters_from names most (drop p.at held.text.now)) most 1 held code p mid mid-code None
 unfolding parameters_from ◌>>=◌
-first_not {names} {text} {held} {p = p} {most = most} one = record {
+first_not {names} {held} {p = p} {most = most} one = record {
   answer =
-      gives_then _ _ (name (drop p.at text)) _ one.answer λ x t k.
+      gives_then _ _ (name (drop p.at held.text.now)) _ one.answer λ x t k.
       gives_then _ _ (later_parameters names most t) _ (gives_any _) λ ps u j.
       gives_yield _ (parameter_named names x ∷ ps) u
-      (rw (parameter_name_lem names x) (crowded_first (table_names held text) (x ∷ []) (map parameter_name ps) k));
+      (rw (parameter_name_lem names x) (crowded_first (table_names held) (x ∷ []) (map parameter_name ps) k));
 }
 
 -- where the next one begins
-pub next_begins : (names : List Name) {text : List ℕ} {held : NameTable} {bound code : List ℕ} {mid : NameTable} {mid-code : List ℕ} {p : Place} {first : ParametersRead}
+pub next_begins : (names : List Name) {held : NameTable} {bound code : List ℕ} {mid : NameTable} {mid-code : List ℕ} {p : Place} {first : ParametersRead}
     {ps : List (PropParameter Name)} {more : ℕ}
-    → Begins text held bound p 0 2 → Binds names (table_names held text) bound p.depth
-    → ParametersGiven 1 3 text held code p mid mid-code first ps → Expected (utf8 ", ") text first.end more
-    → Begins text mid bound (record { at = more; depth = p.depth; to = p.to + first.size }) 0 2
+    → Begins held bound p 0 2 → Binds names (table_names held) bound p.depth
+    → ParametersGiven 1 3 held code p mid mid-code first ps → Expected (utf8 ", ") held.text.now first.end more
+    → Begins mid bound (record { at = more; depth = p.depth; to = p.to + first.size }) 0 2
 next_begins names pre b one goes_on = record {
-  short = pre.short;
-  within = goes_on.within;
-  table = one.noted.table;
+  within = rw one.noted.same_text goes_on.within;
   near = omega (arith, pre.near, one.small, goes_on.after);
   deep = pre.deep;
   binds = (names, binds_noted b one.noted refl);
 }
 
 -- The first one is read, and another may follow.
-module _ (names : List Name) {text : List ℕ} {held : NameTable} {code : List ℕ} {mid : NameTable} {mid-code : List ℕ} {p : Place} {first : ParametersRead} {x : Name} {most : ℕ}
+module _ (names : List Name) {held : NameTable} {code : List ℕ} {mid : NameTable} {mid-code : List ℕ} {p : Place} {first : ParametersRead} {x : Name} {most : ℕ}
     (k : ℕ) (some_left : most ≡ suc k)
-    (named : name (drop p.at text) ≡ given x (drop first.end text))
-    (one : ParametersGiven 1 3 text held code p mid mid-code first (parameter_named names x ∷ [])) where
-  follows : parameters_from names most (drop p.at text)
-      ≡ followed_by (later_parameters names (suc k) (drop first.end text)) (λ ps. yield (parameter_named names x ∷ ps))
+    (named : name (drop p.at held.text.now) ≡ given x (drop first.end held.text.now))
+    (one : ParametersGiven 1 3 held code p mid mid-code first (parameter_named names x ∷ [])) where
+  follows : parameters_from names most (drop p.at held.text.now)
+      ≡ followed_by (later_parameters names (suc k) (drop first.end held.text.now)) (λ ps. yield (parameter_named names x ∷ ps))
   follows = rw some_left (from_first names (suc k) x _ _ named)
 
   -- none does
-  module _ (no_more : expect (utf8 ", ") (drop first.end text) ≡ None) where
-    pub first_open : expect (utf8 ")") (drop first.end text) ≡ None
-        → ParametersAnswer (parameters_from names most (drop p.at text)) most 1 text held code p mid mid-code None
+  module _ (no_more : expect (utf8 ", ") (drop first.end held.text.now) ≡ None) where
+    pub first_open : expect (utf8 ")") (drop first.end held.text.now) ≡ None
+        → ParametersAnswer (parameters_from names most (drop p.at held.text.now)) most 1 held code p mid mid-code None
     unfolding followed_by
     first_open e = record { answer = rw (follows, later_not names k _ no_more e) (gives_none _) }
 
-    pub first_alone : {last : ℕ} → Expected (utf8 ")") text first.end last
-        → ParametersAnswer (parameters_from names most (drop p.at text)) most 1 text held code p mid mid-code
+    pub first_alone : {last : ℕ} → Expected (utf8 ")") held.text.now first.end last
+        → ParametersAnswer (parameters_from names most (drop p.at held.text.now)) most 1 held code p mid mid-code
         (Some (record { end = last; parameters = first.parameters; size = first.size }))
     unfolding followed_by yield
     first_alone {last} ends = record {
@@ -213,38 +212,38 @@ module _ (names : List Name) {text : List ℕ} {held : NameTable} {code : List �
     }
 
   -- others do
-  module _ {more : ℕ} (goes_on : Expected (utf8 ", ") text first.end more) where
+  module _ {more : ℕ} (goes_on : Expected (utf8 ", ") held.text.now first.end more) where
     abbrev Others : NameTable → List ℕ → Option ParametersRead → Type 0
     Others after after-code found =
-        ParametersAnswer (parameters_from names k (drop more text)) k 1 text mid mid-code
+        ParametersAnswer (parameters_from names k (drop more mid.text.now)) k 1 mid mid-code
         (record { at = more; depth = p.depth; to = p.to + first.size }) after after-code found
 
-    follows_more : parameters_from names most (drop p.at text)
-        ≡ followed_by (parameters_from names k (drop more text)) (λ ps. yield (parameter_named names x ∷ ps))
+    follows_more : parameters_from names most (drop p.at held.text.now)
+        ≡ followed_by (parameters_from names k (drop more held.text.now)) (λ ps. yield (parameter_named names x ∷ ps))
     follows_more = follows ∙ ap (λ m. followed_by m (λ ps. yield (parameter_named names x ∷ ps))) (later_more names k _ _ goes_on.reads)
 
-    seen_then : table_names mid text ≡ added (table_names held text) (x ∷ [])
+    seen_then : table_names mid ≡ added (table_names held) (x ∷ [])
     seen_then = rw (parameter_name_lem names x) at one.noted.names
 
-    pub rest_not : {after : NameTable} {after-code : List ℕ} → Others after after-code None → ParametersAnswer (parameters_from names most (drop p.at text)) most 1 text held code p after after-code None
+    pub rest_not : {after : NameTable} {after-code : List ℕ} → Others after after-code None → ParametersAnswer (parameters_from names most (drop p.at held.text.now)) most 1 held code p after after-code None
     rest_not others = record {
       answer =
           rw follows_more
-          (gives_then _ _ (parameters_from names k (drop more text)) _ others.answer λ ps u i.
+          (gives_then _ _ (parameters_from names k (drop more held.text.now)) _ (gives_at (parameters_from names k) more _ one.noted.same_text others.answer) λ ps u i.
           gives_yield _ (parameter_named names x ∷ ps) u
           (rw (parameter_name_lem names x)
-          (crowded_second (table_names held text) (x ∷ []) (map parameter_name ps) (rw seen_then at i))));
+          (crowded_second (table_names held) (x ∷ []) (map parameter_name ps) (rw seen_then at i))));
     }
 
     joined_code : {after : NameTable} {after-code : List ℕ} {rest : ParametersRead} (ps : List (PropParameter Name))
-        → ParametersGiven k 1 text mid mid-code (record { at = more; depth = p.depth; to = p.to + first.size }) after after-code rest ps
-        → after-code ≡ sets code p.to (parameter_code (table_names after text) (parameter_named names x ∷ ps))
+        → ParametersGiven k 1 mid mid-code (record { at = more; depth = p.depth; to = p.to + first.size }) after after-code rest ps
+        → after-code ≡ sets code p.to (parameter_code (table_names after) (parameter_named names x ∷ ps))
     joined_code {after} {after-code} {rest} ps given =
         let p₁ = parameter_named names x in
-        let seen₁ = table_names mid text in
-        let seen₂ = table_names after text in
+        let seen₁ = table_names mid in
+        let seen₂ = table_names after in
         let met : Met seen₁ (map parameter_name (p₁ ∷ [])) =
-        rw one.noted.names (added_meets (table_names held text) (map parameter_name (p₁ ∷ []))) in
+        rw one.noted.names (added_meets (table_names held) (map parameter_name (p₁ ∷ []))) in
         let kept : parameter_code seen₂ (p₁ ∷ []) ≡ parameter_code seen₁ (p₁ ∷ []) =
         rw given.noted.names (parameter_code_kept seen₁ (map parameter_name ps) (p₁ ∷ []) met) in
         stored_then code p.to (parameter_code seen₁ (p₁ ∷ [])) (parameter_code seen₂ ps) one.stored
@@ -252,7 +251,7 @@ module _ (names : List Name) {text : List ℕ} {held : NameTable} {code : List �
         ∙ ap (sets code p.to) (ap (λ l. l ++ parameter_code seen₂ ps) (sym kept) ∙ sym (parameters_code seen₂ p₁ ps))
 
     pub rest_given : {after : NameTable} {after-code : List ℕ} {rest : ParametersRead} → Others after after-code (Some rest)
-        → ParametersAnswer (parameters_from names most (drop p.at text)) most 1 text held code p after after-code
+        → ParametersAnswer (parameters_from names most (drop p.at held.text.now)) most 1 held code p after after-code
         (Some (record { end = rest.end; parameters = 1 + rest.parameters; size = first.size + rest.size }))
     unfolding followed_by yield
     rest_given {rest} others =
@@ -260,9 +259,9 @@ module _ (names : List Name) {text : List ℕ} {held : NameTable} {code : List �
         record {
           answer = (
             parameter_named names x ∷ ps,
-            rw (follows_more, reads) refl,
+            rw (follows_more, ← one.noted.same_text, reads) refl,
             record {
-              within = given.within;
+              within = rw one.noted.same_text at given.within;
               noted = noted_then one.noted given.noted;
               stored = joined_code ps given;
               count_is = omega (arith, given.count_is);

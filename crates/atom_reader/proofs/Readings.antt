@@ -3,6 +3,7 @@ use Prim.Native.Nat.{ℕ}
 use mathlib.Core.Path.{◌≡◌, refl}
 use Rattle.std.specs.Prelude.{Option, None, Some}
 use mathlib.Core.List.{List}
+use lib.ListN.{drop}
 use Rattle.definitions.specs.Code.{Read, Reading, followed_by}
 use Rattle.definitions.proofs.Readings.{given}
 use Rattle.reading_laws.proofs.TermConventions.{Gives}
@@ -35,3 +36,7 @@ pub follows_none : {A B : Type 0} (x : Option (Read A)) (next : A → Reading B)
 unfolding followed_by
 follows_none None next h = refl
 follows_none (Some r) next h = h r.value r.rest
+
+-- the same of the same bytes
+pub gives_at : {A : Type 0} (m : Reading A) (at : ℕ) (P : A → List ℕ → Type 0) {s t : List ℕ} → s ≡ t → Gives (m (drop at s)) P → Gives (m (drop at t)) P
+gives_at m at P e h = rw e at h

@@ -14,8 +14,9 @@ use Rattle.definitions.specs.Prop.{Prop, True, False, Binary, Atom, Quantified, 
 use Rattle.definitions.specs.Text.{occurs}
 use Rattle.definitions.specs.TermText.{prop_names}
 use Rattle.definitions.proofs.Names.{eq_name_of_eq, eq_name_true}
-use Rattle.words.specs.declared.NameTable.{NameTable}
-use Rattle.words.specs.Table.{add_name, added, number_in, table_names, Noted}
+use Rattle.words.specs.declared.name_table.NameTable.{NameTable}
+use Rattle.words.specs.Names.{add_name, added, number_in}
+use Rattle.words.specs.Table.{table_names, Noted}
 use Rattle.words.proofs.Added.{added_append, added_more, met_added}
 use Rattle.prop_parts.specs.Found.{bound_numbers}
 use Rattle.atom_reader.specs.Scope.{Met, Crowded, Binds}
@@ -150,9 +151,9 @@ module _ {names seen : List Name} {bound : List ℕ} {depth : ℕ} (b : Binds na
   bound_number x h = rw b.numbers (bound_same seen x h names b.met)
 
 -- names are noted, and the numbers stay
-pub binds_noted : {names xs : List Name} {text : List ℕ} {held mid : NameTable} {bound after : List ℕ} {depth : ℕ}
-    → Binds names (table_names held text) bound depth → Noted xs text held mid → bound_numbers after depth ≡ bound_numbers bound depth
-    → Binds names (table_names mid text) after depth
+pub binds_noted : {names xs : List Name} {held mid : NameTable} {bound after : List ℕ} {depth : ℕ}
+    → Binds names (table_names held) bound depth → Noted xs held mid → bound_numbers after depth ≡ bound_numbers bound depth
+    → Binds names (table_names mid) after depth
 binds_noted {xs = xs} b noted e = rw noted.names (binds_more b xs e)
 
 pub bound_set : (bound : List ℕ) (at v depth : ℕ) → depth ≤ at → bound_numbers (set bound at v) depth ≡ bound_numbers bound depth

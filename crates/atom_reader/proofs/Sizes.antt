@@ -8,7 +8,7 @@ use Rattle.definitions.specs.Name.{Name}
 use Rattle.definitions.specs.Prop.{Prop, True, False, Binary, Atom, Quantified, PropParameter, Uninstantiated, Instantiated, Connective, impl, Quantifier, nesting, rename_parameter, rename_prop}
 use Rattle.definitions.specs.Code.{u16, encode_parameter, encode_parameters, encode}
 use Rattle.definitions.specs.TermText.{code_bytes}
-use Rattle.words.specs.Table.{number_in}
+use Rattle.words.specs.Names.{number_in}
 use Rattle.atom_reader.specs.Reading.{parameter_code, parameter_bytes, code_over}
 
 module _ (f : Name → ℕ) where

@@ -5,13 +5,14 @@ use Rattle.definitions.specs.Prop.{Prop, Atom, PropParameter, parameter_name, is
 use Rattle.definitions.specs.Prop as prop
 use Rattle.definitions.specs.Code.{Read, Reading, yield, ◌>>=◌, u16, encode_parameters, encode}
 use Rattle.definitions.specs.Display.{precedence}
-use Rattle.definitions.specs.TermText.{term_text_limit, parameter_named, prop_names, code_bytes}
+use Rattle.definitions.specs.TermText.{parameter_named, prop_names, code_bytes}
 use Rattle.definitions.specs.TermReader.{Shown, standing, name, later_parameters, parameters_of}
 use Rattle.definitions.proofs.Readings.{given}
 use Rattle.reading_laws.proofs.TermConventions.{Gives}
 use Rattle.std.proofs.lemmas.List.Edits.{sets}
-use Rattle.words.specs.declared.NameTable.{NameTable}
-use Rattle.words.specs.Table.{number_in, table_names, Table, Noted}
+use Rattle.words.specs.declared.name_table.NameTable.{NameTable}
+use Rattle.words.specs.Names.{number_in}
+use Rattle.words.specs.Table.{table_names, Noted}
 use Rattle.prop_parts.specs.Found.{bound_numbers}
 use Rattle.atom_reader.specs.declared.Place.{Place}
 use Rattle.atom_reader.specs.declared.ParametersRead.{ParametersRead}
@@ -19,13 +20,11 @@ use Rattle.atom_reader.specs.declared.PropRead.{PropRead}
 use Rattle.atom_reader.specs.Scope.{Crowded, Binds}
 
 -- a reading may begin here, with so many levels for quantifiers within; and how far the code may have outrun the text
-pub record Begins (text : List ℕ) (held : NameTable) (bound : List ℕ) (p : Place) (levels slack : ℕ) : Type 0 where
-  pub short : length text ≤ term_text_limit
-  pub within : p.at ≤ length text
-  pub table : Table held text
+pub record Begins (held : NameTable) (bound : List ℕ) (p : Place) (levels slack : ℕ) : Type 0 where
+  pub within : p.at ≤ length held.text.now
   pub near : p.to ≤ 2 * p.at + slack
   pub deep : p.depth + levels ≤ length bound
-  pub binds : (names : List Name) × Binds names (table_names held text) bound p.depth
+  pub binds : (names : List Name) × Binds names (table_names held) bound p.depth
 
 -- Parameters.
 
@@ -42,11 +41,11 @@ parameter_bytes ps = length (encode_parameters (map (rename_parameter (λ x. 0))
 
 -- the parameters that were read, and what became of the names and the code; at most so many, and how far their code outruns their text
 pub record ParametersGiven
-    (most slack : ℕ) (text : List ℕ) (held : NameTable) (code : List ℕ) (p : Place) (after : NameTable) (code' : List ℕ) (r : ParametersRead)
+    (most slack : ℕ) (held : NameTable) (code : List ℕ) (p : Place) (after : NameTable) (code' : List ℕ) (r : ParametersRead)
     (ps : List (PropParameter Name)) : Type 0 where
-  pub within : r.end ≤ length text
-  pub noted : Noted (map parameter_name ps) text held after
-  pub stored : code' ≡ sets code p.to (parameter_code (table_names after text) ps)
+  pub within : r.end ≤ length held.text.now
+  pub noted : Noted (map parameter_name ps) held after
+  pub stored : code' ≡ sets code p.to (parameter_code (table_names after) ps)
   pub count_is : r.parameters ≡ length ps
   pub size_is : r.size ≡ parameter_bytes ps
   pub few : r.parameters ≤ most
@@ -55,18 +54,18 @@ pub record ParametersGiven
 
 -- the answer of the reader of one parameter; none where there is none, or too many names
 pub record ParameterAnswer
-    (names : List Name) (text : List ℕ) (held : NameTable) (code : List ℕ) (p : Place) (after : NameTable) (code' : List ℕ) (r : Option ParametersRead) : Type 0 where
-  pub answer : MatchOption r (Gives (name (drop p.at text)) (λ x rest. Crowded (table_names held text) (x ∷ [])))
-      (λ r. (x : Name) × (name (drop p.at text) ≡ given x (drop r.end text))
-      × ParametersGiven 1 3 text held code p after code' r (parameter_named names x ∷ []))
+    (names : List Name) (held : NameTable) (code : List ℕ) (p : Place) (after : NameTable) (code' : List ℕ) (r : Option ParametersRead) : Type 0 where
+  pub answer : MatchOption r (Gives (name (drop p.at held.text.now)) (λ x rest. Crowded (table_names held) (x ∷ [])))
+      (λ r. (x : Name) × (name (drop p.at held.text.now) ≡ given x (drop r.end held.text.now))
+      × ParametersGiven 1 3 held code p after code' r (parameter_named names x ∷ []))
 
 -- the answer of a reader of parameters; none where there are none, or too many names
 pub record ParametersAnswer
-    (reading : Option (Read (List (PropParameter Name)))) (most slack : ℕ) (text : List ℕ) (held : NameTable) (code : List ℕ) (p : Place)
+    (reading : Option (Read (List (PropParameter Name)))) (most slack : ℕ) (held : NameTable) (code : List ℕ) (p : Place)
     (after : NameTable) (code' : List ℕ) (r : Option ParametersRead) : Type 0 where
-  pub answer : MatchOption r (Gives reading (λ ps rest. Crowded (table_names held text) (map parameter_name ps)))
-      (λ r. (ps : List (PropParameter Name)) × (reading ≡ given ps (drop r.end text))
-      × ParametersGiven most slack text held code p after code' r ps)
+  pub answer : MatchOption r (Gives reading (λ ps rest. Crowded (table_names held) (map parameter_name ps)))
+      (λ r. (ps : List (PropParameter Name)) × (reading ≡ given ps (drop r.end held.text.now))
+      × ParametersGiven most slack held code p after code' r ps)
 
 -- Propositions.
 
@@ -90,18 +89,18 @@ pub record Measured (r : PropRead) (p : Prop Name) : Type 0 where
   pub bottom_is : r.bottom ≡ is_false p
 
 -- the proposition that was read, and what became of the names and the code
-pub record PropGiven (text : List ℕ) (held : NameTable) (code : List ℕ) (p : Place) (after : NameTable) (code' : List ℕ) (r : PropRead) (q : Prop Name) : Type 0 where
-  pub within : r.end ≤ length text
-  pub noted : Noted (prop_names q) text held after
-  pub stored : code' ≡ sets code p.to (code_over (table_names after text) q)
+pub record PropGiven (held : NameTable) (code : List ℕ) (p : Place) (after : NameTable) (code' : List ℕ) (r : PropRead) (q : Prop Name) : Type 0 where
+  pub within : r.end ≤ length held.text.now
+  pub noted : Noted (prop_names q) held after
+  pub stored : code' ≡ sets code p.to (code_over (table_names after) q)
   pub measured : Measured r q
   pub from : p.at < r.end
   pub small : r.size + 2 * p.at ≤ 2 * r.end + 2
 
 -- the answer of a reader of propositions; none where there is none, or too many names
 pub record PropAnswer
-    (reading : Option (Read (Shown (Prop Name)))) (text : List ℕ) (held : NameTable) (bound code : List ℕ) (p : Place) (after : NameTable) (bound' code' : List ℕ)
+    (reading : Option (Read (Shown (Prop Name)))) (held : NameTable) (bound code : List ℕ) (p : Place) (after : NameTable) (bound' code' : List ℕ)
     (r : Option PropRead) : Type 0 where
-  pub answer : MatchOption r (Gives reading (λ q rest. Crowded (table_names held text) (prop_names q.shown)))
-      (λ r. (q : Prop Name) × (reading ≡ given (standing r.own q) (drop r.end text)) × PropGiven text held code p after code' r q)
+  pub answer : MatchOption r (Gives reading (λ q rest. Crowded (table_names held) (prop_names q.shown)))
+      (λ r. (q : Prop Name) × (reading ≡ given (standing r.own q) (drop r.end held.text.now)) × PropGiven held code p after code' r q)
   pub bound_kept : bound_numbers bound' p.depth ≡ bound_numbers bound p.depth

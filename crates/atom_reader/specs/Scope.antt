@@ -3,7 +3,7 @@ use Rattle.std.specs.Prelude.{ℕ, ◌<◌, ◌≡◌, true, List, [], ◌∷◌
 use Rattle.definitions.specs.Name.{Name, eq_name}
 use Rattle.definitions.specs.Sheet.{name_limit}
 use Rattle.definitions.specs.Text.{occurs}
-use Rattle.words.specs.Table.{added, number_in}
+use Rattle.words.specs.Names.{added, number_in}
 use Rattle.prop_parts.specs.Found.{bound_numbers}
 
 -- each of the names was met

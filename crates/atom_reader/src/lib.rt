@@ -9,13 +9,15 @@ ghost use Rattle.definitions.specs.Code.{parameter_limit};
 ghost use Rattle.definitions.specs.TermReader.{parameters_of};
 ghost use Rattle.std.proofs.lemmas.List.Edits.{sets};
 ghost use Rattle.words.specs.Places.{between};
-ghost use Rattle.words.specs.Table.{table_names, NamePlace};
+ghost use Rattle.words.specs.Names.{NamePlace};
+ghost use Rattle.words.specs.Table.{table_names};
 ghost use Rattle.prop_parts.specs.Found.{code_reach};
 ghost use Rattle.atom_reader.specs.Scope.{Binds};
 ghost use Rattle.atom_reader.specs.Reading.{Begins, parameters_from, ParameterAnswer, ParametersAnswer, atom_head, atom_from, PropAnswer};
 
+use output::store_u16;
 use prefix_code::{ATOM, PARAMETER_LIMIT, STRONGEST};
-use prop_parts::{parameter_kind, put, put_parameter, put_u16, read_name};
+use prop_parts::{parameter_kind, put, put_parameter, read_name};
 use words::{NameTable, expect};
 
 // Where the reading stands: in the text, under how many quantifiers, and in the code. The reader of terms has two of these numbers among
@@ -47,24 +49,23 @@ pub struct PropRead {
     pub own: bool,
 }
 
-// The readers are given `text`, `names`, `bound`, `code` and the place apart: a struct of them would hold three `&mut`, and each reader
+// The readers are given `names`, `bound`, `code` and the place apart: a struct of them would hold three `&mut`, and each reader
 // would also have to promise that these stay the same references. `Begins` says of all of them at once what is required.
 
 // One parameter of an atom: a name, bound by a quantifier or not.
 fn read_parameter(
-    text: &[u8],
     names: &mut NameTable,
     bound: &[u16],
     code: &mut [u8],
     p: Place,
 ) -> Option<ParametersRead>
-    requires { Begins text.now names.old bound.now p 0 2 }
+    requires { Begins names.old bound.now p 0 2 }
     ensures { (ns : List Name) →
-        Binds ns (table_names names.old text.now) bound.now p.depth →
-        ParameterAnswer ns text.now names.old code.old p
+        Binds ns (table_names names.old) bound.now p.depth →
+        ParameterAnswer ns names.old code.old p
         names.new code.new result }
 {
-    let name = read_name(text, p.at, names)?;
+    let name = read_name(names, p.at)?;
     let kind = parameter_kind(&bound[..p.depth], name.number);
     let size = put_parameter(code, p.to, name.number, kind);
     Some(ParametersRead {
@@ -76,24 +77,24 @@ fn read_parameter(
 
 // The parameters of an atom from the first one on, where at most so many more may follow: names with ", " between them, and ")".
 fn read_parameters(
-    text: &[u8],
     names: &mut NameTable,
     bound: &[u16],
     code: &mut [u8],
     p: Place,
     most: usize,
 ) -> Option<ParametersRead>
-    requires { Begins text.now names.old bound.now p 0 2 }
+    requires { Begins names.old bound.now p 0 2 }
     ensures { (ns : List Name) →
-        Binds ns (table_names names.old text.now) bound.now p.depth →
-        ParametersAnswer (parameters_from ns most (drop p.at text.now)) most 1
-        text.now names.old code.old p
+        Binds ns (table_names names.old) bound.now p.depth →
+        ParametersAnswer (parameters_from ns most (drop p.at names.old.text.now)) most 1
+        names.old code.old p
         names.new code.new result }
 {
     if most == 0 {
         return None;
     }
-    let first = read_parameter(text, names, bound, code, p)?;
+    let text = names.text;
+    let first = read_parameter(names, bound, code, p)?;
     let Some(more) = expect(text, first.end, b", ") else {
         let end = expect(text, first.end, b")")?;
         return Some(ParametersRead { end, ..first });
@@ -103,7 +104,7 @@ fn read_parameters(
         to: p.to + first.size,
         ..p
     };
-    let rest = read_parameters(text, names, bound, code, place, most - 1)?;
+    let rest = read_parameters(names, bound, code, place, most - 1)?;
     Some(ParametersRead {
         end: rest.end,
         parameters: 1 + rest.parameters,
@@ -113,20 +114,19 @@ fn read_parameters(
 
 // The parameters of an atom, after its name, perhaps none.
 fn atom_parameters(
-    text: &[u8],
     names: &mut NameTable,
     bound: &[u16],
     code: &mut [u8],
     p: Place,
 ) -> Option<ParametersRead>
-    requires { Begins text.now names.old bound.now p 0 2 }
+    requires { Begins names.old bound.now p 0 2 }
     ensures { (ns : List Name) →
-        Binds ns (table_names names.old text.now) bound.now p.depth →
-        ParametersAnswer (parameters_of ns (drop p.at text.now)) parameter_limit 0
-        text.now names.old code.old p
+        Binds ns (table_names names.old) bound.now p.depth →
+        ParametersAnswer (parameters_of ns (drop p.at names.old.text.now)) parameter_limit 0
+        names.old code.old p
         names.new code.new result }
 {
-    let Some(open) = expect(text, p.at, b"(") else {
+    let Some(open) = expect(names.text, p.at, b"(") else {
         return Some(ParametersRead {
             end: p.at,
             parameters: 0,
@@ -134,43 +134,42 @@ fn atom_parameters(
         });
     };
     let place = Place { at: open, ..p };
-    read_parameters(text, names, bound, code, place, PARAMETER_LIMIT as usize)
+    read_parameters(names, bound, code, place, PARAMETER_LIMIT as usize)
 }
 
 // What stands in the code of an atom before its parameters.
 #[tactic(auto, unfolding(crate::specs::Reading::atom_head, definitions::specs::Code::u16))]
-fn put_atom(code: &mut [u8], to: usize, number: usize, parameters: usize)
-    requires { (to < code_reach) × (number < 65536) × (parameters < 256) }
+fn put_atom(code: &mut [u8], to: usize, number: u16, parameters: usize)
+    requires { (to < code_reach) × (parameters < 256) }
     ensures { code.new ≡ sets code.old to (atom_head number parameters) }
 {
     put(code, to, ATOM);
-    put_u16(code, to + 1, number);
+    store_u16(code, to + 1, number);
     put(code, to + 3, parameters as u8);
 }
 
 // An atom whose name ends at `end`.
 pub fn read_atom(
-    text: &[u8],
     names: &mut NameTable,
     bound: &[u16],
     code: &mut [u8],
     p: Place,
     end: usize,
 ) -> Option<PropRead>
-    requires { Begins text.now names.old bound.now p 0 0 × NamePlace text.now p.at end }
+    requires { Begins names.old bound.now p 0 0 × NamePlace names.old.text.now p.at end }
     ensures { (ns : List Name) →
-        Binds ns (table_names names.old text.now) bound.now p.depth →
-        PropAnswer (atom_from ns (between p.at end text.now) (drop end text.now))
-        text.now names.old bound.now code.old p
+        Binds ns (table_names names.old) bound.now p.depth →
+        PropAnswer (atom_from ns (between p.at end names.old.text.now) (drop end names.old.text.now))
+        names.old bound.now code.old p
         names.new bound.now code.new result }
 {
-    let number = names.number_of_name(text, p.at, end)?;
+    let number = names.number_of_name(p.at, end)?;
     let place = Place {
         at: end,
         to: p.to + 4,
         ..p
     };
-    let read = atom_parameters(text, names, bound, code, place)?;
+    let read = atom_parameters(names, bound, code, place)?;
     put_atom(code, p.to, number, read.parameters);
     Some(PropRead {
         end: read.end,

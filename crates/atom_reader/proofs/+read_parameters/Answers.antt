@@ -37,7 +37,7 @@ returns-in_default t c ns b =
 
 -- the next parameter may begin where it does
 next : (t : ℕ) → (c : In-Some t) → let s = c.args in
-    Begins s.text.now c.read_parameter.new.names s.bound.now
+    Begins c.read_parameter.new.names s.bound.now
     (record { at = c.in-Some.more; depth = s.p.depth; to = s.p.to + c.in_ok-first.first.size }) 0 2
 next t c =
     let pre = c.requires in
@@ -53,7 +53,7 @@ pub overflow_add-place : goal.overflow_add-place
 unfolding term_text_limit
 overflow_add-place t c =
     let there = next t (goal.at.overflow_add-place t c).In-Some in
-    omega (arith, there.near, there.within, there.short)
+    omega (arith, there.near, there.within, c.read_parameter.new.names.table.short)
 
 pub returns-in_err-rest : goal.returns-in_err-rest
 returns-in_err-rest t c ns b =
@@ -70,8 +70,10 @@ sums t c =
     let pre = c.requires in
     let (ns, b) = pre.binds in
     let (x, named, given) = (c.in_ok-first.ensures ns b).answer in
-    let (ps, reads, later) = (c.in_ok-rest.ensures ns (binds_noted b given.noted refl)).answer in
-    (omega (arith, later.few, c.if-most-eq0.false), omega (arith, given.small, later.small, pre.short, later.within, given.within))
+    let (ps, reads, later) = (c.in_ok-rest.ensures ns (binds_noted b given.noted refl)).answer in (
+      omega (arith, later.few, c.if-most-eq0.false),
+      omega (arith, given.small, later.small, c.args.names.now.table.short, c.read_parameter.new.names.table.short, later.within, given.within),
+    )
 
 pub overflow_add-result : goal.overflow_add-result
 overflow_add-result t c = omega (arith, (sums t (goal.at.overflow_add-result t c).In_ok-rest).0, c.ranges)

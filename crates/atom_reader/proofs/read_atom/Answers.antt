@@ -5,7 +5,6 @@ use native.Mathlib.Omega.{arith}
 use Rattle.std.specs.Prelude.{None}
 use borrow.Author.Rules.{rules}
 use Rattle.definitions.specs.Code.{parameter_limit}
-use Rattle.definitions.specs.Sheet.{name_limit}
 use Rattle.definitions.specs.TermText.{term_text_limit}
 use Rattle.prop_parts.specs.Found.{code_reach}
 use Rattle.atom_reader.proofs.Scopes.{binds_noted}
@@ -22,7 +21,7 @@ pub overflow_add-place : goal.overflow_add-place
 unfolding term_text_limit
 overflow_add-place c =
     let pre = c.requires.0 in
-    omega (arith, pre.near, pre.within, pre.short)
+    omega (arith, pre.near, pre.within, c.args.names.now.table.short)
 
 pub atom_parameters-requires : goal.atom_parameters-requires
 atom_parameters-requires c =
@@ -43,14 +42,13 @@ few c =
     let pre = c.requires.0 in
     let (ns, b) = pre.binds in
     let (ps, reads, given) = (c.in_ok-read.ensures ns (binds_noted b c.in_ok-number.ensures.noted refl)).answer in
-    (omega (arith, given.few), omega (arith, given.small, given.within, pre.short))
+    (omega (arith, given.few), omega (arith, given.small, given.within, c.number_of_name.new.self.table.short))
 
 pub put_atom-requires : goal.put_atom-requires
-unfolding name_limit term_text_limit
+unfolding term_text_limit
 put_atom-requires c =
     let pre = c.requires.0 in
-    let found = c.in_ok-number.ensures in
-    (omega (arith, pre.near, pre.within, pre.short), omega (arith, found.below, found.noted.table.few), (few (goal.at.put_atom-requires c).In_ok-read).0)
+    (omega (arith, pre.near, pre.within, c.args.names.now.table.short), (few (goal.at.put_atom-requires c).In_ok-read).0)
 
 pub overflow_add-result : goal.overflow_add-result
 overflow_add-result c = omega (arith, (few (goal.at.overflow_add-result c).In_ok-read).1)

@@ -3,7 +3,6 @@ use mathlib.Core.Path.{◌≡◌}
 use native.Mathlib.Omega.{arith}
 use Rattle.std.specs.Prelude.{None}
 use borrow.Author.Rules.{rules}
-use Rattle.definitions.specs.Sheet.{name_limit}
 use Rattle.definitions.specs.TermText.{term_text_limit}
 use Rattle.atom_reader.proofs.Parameters.{parameter_not, parameter_given}
 use Rattle.atom_reader.proofs.read_parameter.Goals as goal
@@ -14,11 +13,10 @@ returns-in_err-name c ns b =
     rw none (parameter_not ns _ c.in_err-name.ensures)
 
 pub put_parameter-size-requires : goal.put_parameter-size-requires
-unfolding name_limit term_text_limit
+unfolding term_text_limit
 put_parameter-size-requires c =
     let pre = c.requires in
-    let read = c.in_ok-name.ensures in
-    (omega (arith, pre.near, pre.within, pre.short), omega (arith, read.below, read.noted.table.few))
+    omega (arith, pre.near, pre.within, c.args.names.now.table.short)
 
 pub returns : goal.returns
 returns c ns b = parameter_given b c.in_ok-name.ensures (omega (arith, c.requires.deep)) c.parameter_kind-kind.ensures c.put_parameter-size.ensures
