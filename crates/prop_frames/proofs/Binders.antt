@@ -15,9 +15,10 @@ use Rattle.definitions.specs.TermReader.{Shown, standing, name, expect, negation
 use Rattle.definitions.proofs.Readings.{given}
 use Rattle.reading_laws.proofs.TermConventions.{gives_yield, gives_none, gives_then, gives_due}
 use Rattle.std.proofs.lemmas.List.Edits.{sets}
-use Rattle.words.specs.declared.NameTable.{NameTable}
+use Rattle.words.specs.declared.name_table.NameTable.{NameTable}
 use Rattle.words.specs.Places.{between, Expected}
-use Rattle.words.specs.Table.{added, number_in, table_names}
+use Rattle.words.specs.Names.{added, number_in}
+use Rattle.words.specs.Table.{table_names}
 use Rattle.words.proofs.Added.{noted_then}
 use Rattle.prop_parts.specs.declared.NameRead.{NameRead}
 use Rattle.prop_parts.specs.Found.{NameLacks, NameGiven, sign_size}
@@ -27,54 +28,65 @@ use Rattle.atom_reader.specs.Scope.{Met, Crowded, Binds}
 use Rattle.atom_reader.specs.Reading.{Begins}
 use Rattle.prop_frames.specs.Fronts.{negated, bracketed, quantified, front_names, front_code, front_bytes, part_least, part_bound, closing, binder_names, Binder, BinderLacks, BinderGiven, binder_code, FrontAnswer}
 use Rattle.atom_reader.proofs.Scopes.{added_meets, binds_noted, bound_set, binds_one, crowded_first, crowded_second}
-use Rattle.atom_reader.proofs.Readings.{gives_from, gives_any}
+use Rattle.atom_reader.proofs.Readings.{gives_from, gives_any, gives_at}
 use Rattle.atom_reader.proofs.Atoms.{noted_none, number_later}
 
 -- The names of a quantifier.
-pub no_object : (text : List ℕ) (held : NameTable) (at : ℕ) → NameLacks text at held → BinderLacks text at held
+pub no_object : (held : NameTable) (at : ℕ) → NameLacks at held → BinderLacks at held
 unfolding binder_names ◌>>=◌ added
-no_object text held at lacks =
-    gives_then _ _ (name (drop at text)) _ (gives_from (name (drop at text)) (λ x rest. Crowded (table_names held text) (x ∷ [])) lacks) λ x t f.
+no_object held at lacks =
+    gives_then _ _ (name (drop at held.text.now)) _ (gives_from (name (drop at held.text.now)) (λ x rest. Crowded (table_names held) (x ∷ [])) lacks) λ x t f.
     gives_then _ _ (expect (utf8 ":") t) _ (gives_any _) λ u v i.
     gives_then _ _ (name v) _ (gives_any _) λ d w i.
     gives_then _ _ (expect (utf8 ". ") w) _ (gives_any _) λ u z i.
-    gives_yield _ (record { object = x; datatype = d }) z (crowded_first (table_names held text) (x ∷ []) (d ∷ []) f)
+    gives_yield _ (record { object = x; datatype = d }) z (crowded_first (table_names held) (x ∷ []) (d ∷ []) f)
 
-module _ {text : List ℕ} {held after : NameTable} {at : ℕ} {n : NameRead} (object : NameGiven text at held after n) where
-  pub no_colon : expect (utf8 ":") (drop n.end text) ≡ None → BinderLacks text at held
+module _ {held after : NameTable} {at : ℕ} {n : NameRead} (object : NameGiven at held after n) where
+  abbrev text : List ℕ
+  text = held.text.now
+
+  pub no_colon : expect (utf8 ":") (drop n.end text) ≡ None → BinderLacks at held
   unfolding binder_names ◌>>=◌ followed_by
   no_colon e = rw (object.reads, e) (gives_none _)
 
   module _ {colon : ℕ} (first : Expected (utf8 ":") text n.end colon) where
-    pub no_datatype : NameLacks text colon after → BinderLacks text at held
+    pub no_datatype : NameLacks colon after → BinderLacks at held
     unfolding binder_names ◌>>=◌ followed_by added
     no_datatype lacks =
         rw (object.reads, first.reads)
         (gives_then _ _ (name (drop colon text)) _
-        (gives_from (name (drop colon text)) (λ x rest. Crowded (table_names after text) (x ∷ [])) lacks) λ d w i.
+        (gives_at name colon (λ x rest. Crowded (table_names after) (x ∷ [])) object.noted.same_text
+        (gives_from (name (drop colon after.text.now)) (λ x rest. Crowded (table_names after) (x ∷ [])) lacks)) λ d w i.
         gives_then _ _ (expect (utf8 ". ") w) _ (gives_any _) λ u z j.
         gives_yield _ (record { object = between at n.end text; datatype = d }) z
-        (crowded_second (table_names held text) (between at n.end text ∷ []) (d ∷ []) (rw object.noted.names at i)))
+        (crowded_second (table_names held) (between at n.end text ∷ []) (d ∷ []) (rw object.noted.names at i)))
 
-    module _ {after' : NameTable} {m : NameRead} (datatype : NameGiven text colon after after' m) where
-      pub no_dot : expect (utf8 ". ") (drop m.end text) ≡ None → BinderLacks text at held
+    module _ {after' : NameTable} {m : NameRead} (datatype : NameGiven colon after after' m) where
+      -- the datatype is read from the same text
+      abbrev second_name : List ℕ
+      second_name = between colon m.end after.text.now
+
+      datatype_reads : name (drop colon text) ≡ given second_name (drop m.end text)
+      datatype_reads = rw (← object.noted.same_text) datatype.reads
+
+      pub no_dot : expect (utf8 ". ") (drop m.end text) ≡ None → BinderLacks at held
       unfolding binder_names ◌>>=◌ followed_by
-      no_dot e = rw (object.reads, first.reads, datatype.reads, e) (gives_none _)
+      no_dot e = rw (object.reads, first.reads, datatype_reads, e) (gives_none _)
 
       pub binder_read : {dot : ℕ} → Expected (utf8 ". ") text m.end dot
-          → (b : Binder) × BinderGiven text at held after' (record { end = dot; object = n.number; datatype = m.number }) b
+          → (b : Binder) × BinderGiven at held after' (record { end = dot; object = n.number; datatype = m.number }) b
       unfolding binder_names ◌>>=◌ followed_by yield added
       binder_read {dot} second = (
-        record { object = between at n.end text; datatype = between colon m.end text },
+        record { object = between at n.end text; datatype = second_name },
         record {
           within = second.within;
-          reads = rw (object.reads, first.reads, datatype.reads, second.reads) refl;
+          reads = rw (object.reads, first.reads, datatype_reads, second.reads) refl;
           noted = noted_then object.noted datatype.noted;
           object_is =
-              number_later (between at n.end text) (table_names held text) (between colon m.end text ∷ []) object.number_is
+              number_later (between at n.end text) (table_names held) (second_name ∷ []) object.number_is
               ∙ ap (λ seen. number_in seen (between at n.end text))
-              (ap (λ seen. added seen (between colon m.end text ∷ [])) (sym object.noted.names) ∙ sym datatype.noted.names);
-          datatype_is = datatype.number_is ∙ ap (λ seen. number_in seen (between colon m.end text)) (sym datatype.noted.names);
+              (ap (λ seen. added seen (second_name ∷ [])) (sym object.noted.names) ∙ sym datatype.noted.names);
+          datatype_is = datatype.number_is ∙ ap (λ seen. number_in seen second_name) (sym datatype.noted.names);
           object_below = omega (arith, object.below, datatype.noted.more);
           datatype_below = datatype.below;
           from = omega (arith, object.from, first.after, datatype.from, second.after);
@@ -98,10 +110,10 @@ binder_splits part names q s =
     splits_on (name v) _ _ _ λ d w.
     splits_on (expect (utf8 ". ") w) _ _ _ λ u z. refl
 
-module _ {names : List Name} {text : List ℕ} {held : NameTable} {bound code : List ℕ} {p : Place}
-    (b : Binds names (table_names held text) bound p.depth) (pre : Begins text held bound p 1 0) where
-  pub opens_bracket : {at : ℕ} → at ≡ p.at + sign_size bracket → at ≤ length text
-      → FrontAnswer bracket names text held bound code p held bound code (Some (record { at = at; depth = p.depth; to = p.to }))
+module _ {names : List Name} {held : NameTable} {bound code : List ℕ} {p : Place}
+    (b : Binds names (table_names held) bound p.depth) (pre : Begins held bound p 1 0) where
+  pub opens_bracket : {at : ℕ} → at ≡ p.at + sign_size bracket → at ≤ length held.text.now
+      → FrontAnswer bracket names held bound code p held bound code (Some (record { at = at; depth = p.depth; to = p.to }))
   unfolding signed ◌>>=◌ sign_size part_least part_bound front_names front_code front_bytes closing
   opens_bracket {at} e h = record {
     answer = (
@@ -110,7 +122,7 @@ module _ {names : List Name} {text : List ℕ} {held : NameTable} {bound code : 
         within = h;
         reads = λ part. rw e refl;
         sign_is = refl;
-        noted = noted_none pre.table;
+        noted = noted_none;
         stored = refl;
         to_is = omega arith;
         binds = b;
@@ -123,8 +135,8 @@ module _ {names : List Name} {text : List ℕ} {held : NameTable} {bound code : 
     bound_kept = refl;
   }
 
-  pub opens_negation : {at : ℕ} {after : List ℕ} → at ≡ p.at + sign_size negation → at ≤ length text → after ≡ sets code p.to (4 ∷ [])
-      → FrontAnswer negation names text held bound code p held bound after (Some (record { at = at; depth = p.depth; to = p.to + 1 }))
+  pub opens_negation : {at : ℕ} {after : List ℕ} → at ≡ p.at + sign_size negation → at ≤ length held.text.now → after ≡ sets code p.to (4 ∷ [])
+      → FrontAnswer negation names held bound code p held bound after (Some (record { at = at; depth = p.depth; to = p.to + 1 }))
   unfolding signed ◌>>=◌ sign_size part_least part_bound front_names front_code front_bytes closing
   opens_negation {at} e h stored = record {
     answer = (
@@ -133,7 +145,7 @@ module _ {names : List Name} {text : List ℕ} {held : NameTable} {bound code : 
         within = h;
         reads = λ part. rw e refl;
         sign_is = refl;
-        noted = noted_none pre.table;
+        noted = noted_none;
         stored = stored;
         to_is = omega arith;
         binds = b;
@@ -147,22 +159,22 @@ module _ {names : List Name} {text : List ℕ} {held : NameTable} {bound code : 
   }
 
   module _ (q : Quantifier) {at : ℕ} (after : NameTable) (e : at ≡ p.at + sign_size (binder q)) where
-    pub opens_not : BinderLacks text at held → FrontAnswer (binder q) names text held bound code p after bound code None
+    pub opens_not : BinderLacks at held → FrontAnswer (binder q) names held bound code p after bound code None
     unfolding closing prop_names standing
     opens_not lacks = record {
       answer = λ part.
-          rw (← e, binder_splits part names q (drop at text))
-          (gives_then _ _ (binder_names (drop at text)) _ lacks λ d t f.
+          rw (← e, binder_splits part names q (drop at held.text.now))
+          (gives_then _ _ (binder_names (drop at held.text.now)) _ lacks λ d t f.
           gives_then _ _ (part 0 (d.object ∷ names) t) _ (gives_any _) λ r u i.
           gives_due _ r.own false _ u λ j.
           gives_yield _ (standing false (Quantified q d.object d.datatype r.shown)) u
-          (crowded_first (table_names held text) (d.object ∷ d.datatype ∷ []) (prop_names r.shown) f));
+          (crowded_first (table_names held) (d.object ∷ d.datatype ∷ []) (prop_names r.shown) f));
       bound_kept = refl;
     }
 
-    pub opens_quantifier : {read : BinderRead} {code' : List ℕ} (d : Binder) → BinderGiven text at held after read d
+    pub opens_quantifier : {read : BinderRead} {code' : List ℕ} (d : Binder) → BinderGiven at held after read d
         → code' ≡ sets code p.to (binder_code (quantifier_byte q) read.object read.datatype)
-        → FrontAnswer (binder q) names text held bound code p after (set bound p.depth read.object) code'
+        → FrontAnswer (binder q) names held bound code p after (set bound p.depth read.object) code'
         (Some (record { at = read.end; depth = p.depth + 1; to = p.to + 5 }))
     unfolding sign_size part_least part_bound front_names front_code front_bytes followed_by binder_code Met
     opens_quantifier {read} d given stored = record {
@@ -170,13 +182,13 @@ module _ {names : List Name} {text : List ℕ} {held : NameTable} {bound code : 
         quantified q d.object d.datatype,
         record {
           within = given.within;
-          reads = λ part. rw (← e, binder_splits part names q (drop at text), given.reads) refl;
+          reads = λ part. rw (← e, binder_splits part names q (drop at held.text.now), given.reads) refl;
           sign_is = refl;
           noted = given.noted;
           stored = rw (← given.object_is, ← given.datatype_is) stored;
           to_is = omega arith;
           binds = binds_one d.object (binds_noted b given.noted refl)
-              (rw given.noted.names (added_meets (table_names held text) (d.object ∷ d.datatype ∷ [])).0)
+              (rw given.noted.names (added_meets (table_names held) (d.object ∷ d.datatype ∷ [])).0)
               given.object_is (omega (arith, pre.deep));
           depth = omega arith;
           deeper = omega arith;

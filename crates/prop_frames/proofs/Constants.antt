@@ -13,8 +13,7 @@ use Rattle.definitions.specs.TermText.{prop_names, code_bytes}
 use Rattle.definitions.specs.Display.{precedence}
 use Rattle.definitions.specs.TermReader.{signed}
 use Rattle.std.proofs.lemmas.List.Edits.{sets}
-use Rattle.words.specs.declared.NameTable.{NameTable}
-use Rattle.words.specs.Table.{Table}
+use Rattle.words.specs.declared.name_table.NameTable.{NameTable}
 use denote.Enum.Bare.{sameb}
 use Rattle.prop_parts.specs.contracts.Constant.{the_type}
 use Rattle.prop_parts.specs.declared.Constant.{Constant}
@@ -33,19 +32,19 @@ pub same_bottom : (c : Constant) → sameb the_type c Bottom ≡ is_bottom c
 same_bottom Top = refl
 same_bottom Bottom = refl
 
-module _ (part : Part) (names : List Name) {text : List ℕ} {held : NameTable} {bound code after : List ℕ} {p : Place} where
-  pub constant : (c : Constant) {n : ℕ} {t : Bool} → n ≡ constant_byte c → t ≡ is_bottom c → Table held text → p.at + 3 ≤ length text
+module _ (part : Part) (names : List Name) {held : NameTable} {bound code after : List ℕ} {p : Place} where
+  pub constant : (c : Constant) {n : ℕ} {t : Bool} → n ≡ constant_byte c → t ≡ is_bottom c → p.at + 3 ≤ length held.text.now
       → after ≡ sets code p.to (n ∷ [])
-      → PropAnswer (signed part names (constant_sign c) (drop (p.at + 3) text)) text held bound code p held bound after
+      → PropAnswer (signed part names (constant_sign c) (drop (p.at + 3) held.text.now)) held bound code p held bound after
       (Some (record { end = p.at + 3; size = 1; nesting = 1; strength = 999; bottom = t; own = false }))
   unfolding signed yield prop_names code_over encode rename_prop code_bytes nesting precedence is_false constant_byte
-  constant Top e f table h stored = record {
+  constant Top e f h stored = record {
     answer = (
       True,
       refl,
       record {
         within = h;
-        noted = noted_none table;
+        noted = noted_none;
         stored = rw e at stored;
         measured = record { size_is = refl; nesting_is = refl; strength_is = refl; bottom_is = f };
         from = omega arith;
@@ -54,13 +53,13 @@ module _ (part : Part) (names : List Name) {text : List ℕ} {held : NameTable} 
     );
     bound_kept = refl;
   }
-  constant Bottom e f table h stored = record {
+  constant Bottom e f h stored = record {
     answer = (
       False,
       refl,
       record {
         within = h;
-        noted = noted_none table;
+        noted = noted_none;
         stored = rw e at stored;
         measured = record { size_is = refl; nesting_is = refl; strength_is = refl; bottom_is = f };
         from = omega arith;

@@ -10,8 +10,9 @@ use Rattle.definitions.specs.TermReader.{Shown, standing, due, expect, Sign, neg
 use Rattle.definitions.proofs.Readings.{given}
 use Rattle.reading_laws.proofs.TermConventions.{Gives}
 use Rattle.std.proofs.lemmas.List.Edits.{sets}
-use Rattle.words.specs.declared.NameTable.{NameTable}
-use Rattle.words.specs.Table.{number_in, table_names, Noted}
+use Rattle.words.specs.declared.name_table.NameTable.{NameTable}
+use Rattle.words.specs.Names.{number_in}
+use Rattle.words.specs.Table.{table_names, Noted}
 use Rattle.prop_parts.specs.declared.Opening.{Opening}
 use Rattle.prop_parts.specs.Found.{code_reach, bound_numbers, opening_sign, sign_size}
 use Rattle.atom_reader.specs.declared.Place.{Place}
@@ -92,43 +93,43 @@ binder_names = do
   yield (record { object = x; datatype = t })
 
 -- those that were read, and their numbers
-pub record BinderGiven (text : List ℕ) (at : ℕ) (held after : NameTable) (r : BinderRead) (b : Binder) : Type 0 where
-  pub within : r.end ≤ length text
-  pub reads : binder_names (drop at text) ≡ given b (drop r.end text)
-  pub noted : Noted (b.object ∷ b.datatype ∷ []) text held after
-  pub object_is : r.object ≡ number_in (table_names after text) b.object
-  pub datatype_is : r.datatype ≡ number_in (table_names after text) b.datatype
+pub record BinderGiven (at : ℕ) (held after : NameTable) (r : BinderRead) (b : Binder) : Type 0 where
+  pub within : r.end ≤ length held.text.now
+  pub reads : binder_names (drop at held.text.now) ≡ given b (drop r.end held.text.now)
+  pub noted : Noted (b.object ∷ b.datatype ∷ []) held after
+  pub object_is : r.object ≡ number_in (table_names after) b.object
+  pub datatype_is : r.datatype ≡ number_in (table_names after) b.datatype
   pub object_below : r.object < after.count
   pub datatype_below : r.datatype < after.count
   pub from : at + 5 ≤ r.end
 
 -- there are none, or too many
-abbrev pub BinderLacks : List ℕ → ℕ → NameTable → Type 0
-BinderLacks text at held =
-    Gives (binder_names (drop at text)) (λ b rest. Crowded (table_names held text) (b.object ∷ b.datatype ∷ []))
+abbrev pub BinderLacks : ℕ → NameTable → Type 0
+BinderLacks at held =
+    Gives (binder_names (drop at held.text.now)) (λ b rest. Crowded (table_names held) (b.object ∷ b.datatype ∷ []))
 
 -- the code of a quantifier's sign and names
 unfoldable pub binder_code : ℕ → ℕ → ℕ → List ℕ
 binder_code head object datatype = head ∷ (u16 object ++ u16 datatype)
 
 -- a front begins here with this sign
-pub record FrontBegins (text : List ℕ) (held : NameTable) (bound : List ℕ) (p : Place) (sign : Opening) : Type 0 where
-  pub begins : Begins text held bound p 1 0
-  pub sign_within : p.at + sign_size (opening_sign sign) ≤ length text
+pub record FrontBegins (held : NameTable) (bound : List ℕ) (p : Place) (sign : Opening) : Type 0 where
+  pub begins : Begins held bound p 1 0
+  pub sign_within : p.at + sign_size (opening_sign sign) ≤ length held.text.now
 
 -- the front that was read from its sign on, and what became of the memory
 pub record FrontGiven
-    (g : Sign) (names : List Name) (text : List ℕ) (held : NameTable) (bound code : List ℕ) (p : Place) (after : NameTable) (bound' code' : List ℕ) (r : Place) (f : Front)
+    (g : Sign) (names : List Name) (held : NameTable) (bound code : List ℕ) (p : Place) (after : NameTable) (bound' code' : List ℕ) (r : Place) (f : Front)
     : Type 0 where
-  pub within : r.at ≤ length text
+  pub within : r.at ≤ length held.text.now
   pub reads : (part : Part)
-      → signed part names g (drop (p.at + sign_size g) text)
-      ≡ followed_by (part (part_least f) (part_bound f names) (drop r.at text)) (closing f)
+      → signed part names g (drop (p.at + sign_size g) held.text.now)
+      ≡ followed_by (part (part_least f) (part_bound f names) (drop r.at held.text.now)) (closing f)
   pub sign_is : g ≡ front_sign f
-  pub noted : Noted (front_names f) text held after
-  pub stored : code' ≡ sets code p.to (front_code (table_names after text) f)
+  pub noted : Noted (front_names f) held after
+  pub stored : code' ≡ sets code p.to (front_code (table_names after) f)
   pub to_is : r.to ≡ p.to + front_bytes f
-  pub binds : Binds (part_bound f names) (table_names after text) bound' r.depth
+  pub binds : Binds (part_bound f names) (table_names after) bound' r.depth
   pub depth : r.depth ≤ p.depth + 1
   pub deeper : p.depth ≤ r.depth
   pub from : p.at < r.at
@@ -136,11 +137,11 @@ pub record FrontGiven
 
 -- the answer of a reader of fronts; none where there is none, or too many names
 pub record FrontAnswer
-    (g : Sign) (names : List Name) (text : List ℕ) (held : NameTable) (bound code : List ℕ) (p : Place) (after : NameTable) (bound' code' : List ℕ) (r : Option Place)
+    (g : Sign) (names : List Name) (held : NameTable) (bound code : List ℕ) (p : Place) (after : NameTable) (bound' code' : List ℕ) (r : Option Place)
     : Type 0 where
   pub answer : MatchOption r ((part : Part)
-      → Gives (signed part names g (drop (p.at + sign_size g) text)) (λ q rest. Crowded (table_names held text) (prop_names q.shown)))
-      (λ r. (f : Front) × FrontGiven g names text held bound code p after bound' code' r f)
+      → Gives (signed part names g (drop (p.at + sign_size g) held.text.now)) (λ q rest. Crowded (table_names held) (prop_names q.shown)))
+      (λ r. (f : Front) × FrontGiven g names held bound code p after bound' code' r f)
   pub bound_kept : bound_numbers bound' p.depth ≡ bound_numbers bound p.depth
 
 -- a part may be closed: its end, and how large it is at most

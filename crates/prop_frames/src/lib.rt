@@ -9,8 +9,8 @@ ghost use Rattle.definitions.specs.Prop.{Prop, quantifier_byte};
 ghost use Rattle.definitions.specs.TermReader.{standing, same, signed, goes_on};
 ghost use Rattle.definitions.specs.TermText.{term_text_limit};
 ghost use Rattle.std.proofs.lemmas.List.Edits.{sets};
-ghost use Rattle.words.specs.declared.NameTable.{NameTable};
-ghost use Rattle.words.specs.Table.{table_names, Table};
+ghost use Rattle.words.specs.declared.name_table.NameTable.{NameTable};
+ghost use Rattle.words.specs.Table.{table_names};
 ghost use Rattle.prefix_code.specs.Shape.{meant, quantifier_meant};
 ghost use Rattle.prop_parts.specs.Found.{code_reach, constant_sign, opening_sign};
 ghost use Rattle.atom_reader.specs.Scope.{Binds};
@@ -19,16 +19,17 @@ ghost use Rattle.prop_frames.specs.Fronts.{Part, Front, front_sign, part_least, 
 ghost use Rattle.prop_frames.specs.Sides.{GoesOnAt, sides_agree, inserted, Joinable, Joins};
 
 use atom_reader::{Place, PropRead};
+use output::store_u16;
 use prefix_code::{Connective, FALSE, IMPL, Quantifier, STRONGEST, WEAKEST};
-use prop_parts::{CONSTANT_SIZE, Constant, Opening, connective_at, put, put_u16, read_name};
+use prop_parts::{CONSTANT_SIZE, Constant, Opening, connective_at, put, read_name};
 use words::{NameTable, expect};
 
 // The names of a quantifier: where they end, and their numbers.
 #[derive(Clone, Copy)]
 pub struct BinderRead {
     pub end: usize,
-    pub object: usize,
-    pub datatype: usize,
+    pub object: u16,
+    pub datatype: u16,
 }
 
 // Whether something stands in brackets of its own exactly where these are due.
@@ -39,19 +40,19 @@ fn agree(own: bool, due: bool) -> bool
     own == due
 }
 
-// The readers are given `text`, `names`, `bound`, `code` and the place apart, as in atom_reader. The names that quantifiers bind fill
+// The readers are given `names`, `bound`, `code` and the place apart, as in atom_reader. The names that quantifiers bind fill
 // the memory `bound` up to the place's depth: memory of fixed size has no push.
 
 // The names of a quantifier, after its sign.
-fn binder_names(text: &[u8], at: usize, names: &mut NameTable) -> Option<BinderRead>
-    requires { Table names.old text.now
-        × (at ≤ length text.now) × (length text.now ≤ term_text_limit) }
-    ensures { MatchOption result (BinderLacks text.now at names.old)
-        (λ r. (b : Binder) × BinderGiven text.now at names.old names.new r b) }
+fn binder_names(names: &mut NameTable, at: usize) -> Option<BinderRead>
+    requires { at ≤ length names.old.text.now }
+    ensures { MatchOption result (BinderLacks at names.old)
+        (λ r. (b : Binder) × BinderGiven at names.old names.new r b) }
 {
-    let object = read_name(text, at, names)?;
+    let text = names.text;
+    let object = read_name(names, at)?;
     let colon = expect(text, object.end, b":")?;
-    let datatype = read_name(text, colon, names)?;
+    let datatype = read_name(names, colon)?;
     let end = expect(text, datatype.end, b". ")?;
     Some(BinderRead {
         end,
@@ -62,29 +63,28 @@ fn binder_names(text: &[u8], at: usize, names: &mut NameTable) -> Option<BinderR
 
 // What stands in the code of a quantifier before its part.
 #[tactic(auto, unfolding(crate::specs::Fronts::binder_code, definitions::specs::Code::u16))]
-fn put_binder(code: &mut [u8], to: usize, quantifier: Quantifier, object: usize, datatype: usize)
-    requires { (to < code_reach) × (object < 65536) × (datatype < 65536) }
+fn put_binder(code: &mut [u8], to: usize, quantifier: Quantifier, object: u16, datatype: u16)
+    requires { to < code_reach }
     ensures { code.new ≡ sets code.old to
         (binder_code (quantifier_byte (quantifier_meant quantifier)) object datatype) }
 {
     put(code, to, quantifier.byte());
-    put_u16(code, to + 1, object);
-    put_u16(code, to + 3, datatype);
+    store_u16(code, to + 1, object);
+    store_u16(code, to + 3, datatype);
 }
 
 // What stands before a part: the sign at `p` and what belongs to it. Gives the place of the part.
 pub fn open_front(
-    text: &[u8],
     names: &mut NameTable,
     bound: &mut [u16],
     code: &mut [u8],
     p: Place,
     sign: Opening,
 ) -> Option<Place>
-    requires { FrontBegins text.now names.old bound.old p sign }
+    requires { FrontBegins names.old bound.old p sign }
     ensures { (ns : List Name) →
-        Binds ns (table_names names.old text.now) bound.old p.depth →
-        FrontAnswer (opening_sign sign) ns text.now names.old bound.old code.old p
+        Binds ns (table_names names.old) bound.old p.depth →
+        FrontAnswer (opening_sign sign) ns names.old bound.old code.old p
         names.new bound.new code.new result }
 {
     let to = p.to;
@@ -101,9 +101,9 @@ pub fn open_front(
             })
         }
         Opening::Binder(quantifier) => {
-            let read = binder_names(text, at, names)?;
+            let read = binder_names(names, at)?;
             put_binder(code, to, quantifier, read.object, read.datatype);
-            bound[depth] = read.object as u16;
+            bound[depth] = read.object;
             Some(Place {
                 at: read.end,
                 depth: depth + 1,
@@ -182,9 +182,9 @@ pub fn close_prop(
 // ⊤ or ⊥, whose sign stands at `p`.
 pub fn read_constant(text: &[u8], code: &mut [u8], p: Place, sign: Constant) -> PropRead
     requires { (p.at + 3 ≤ length text.now) × (p.to < code_reach) × (length text.now ≤ term_text_limit) }
-    ensures { (part : Part) (ns : List Name) (held : NameTable) (bound : List ℕ) → Table held text.now →
+    ensures { (part : Part) (ns : List Name) (held : NameTable) (bound : List ℕ) → held.text.now ≡ text.now →
         PropAnswer (signed part ns (constant_sign sign) (drop (p.at + 3) text.now))
-        text.now held bound code.old p held bound code.new (Some result) }
+        held bound code.old p held bound code.new (Some result) }
 {
     put(code, p.to, sign.byte());
     PropRead {

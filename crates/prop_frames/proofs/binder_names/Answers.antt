@@ -8,7 +8,7 @@ use Rattle.prop_frames.proofs.binder_names.Goals as goal
 pub returns-in_err-object : goal.returns-in_err-object
 returns-in_err-object c =
     let none : c.from_residual.result ≡ None = search rules in
-    rw none (no_object _ _ _ c.in_err-object.ensures)
+    rw none (no_object _ _ c.in_err-object.ensures)
 
 pub returns-in_err-colon : goal.returns-in_err-colon
 returns-in_err-colon c =

@@ -1,22 +1,21 @@
 -- A bracket, a negation, or a quantifier with its names.
-use Prim.Native.Nat.{◌+◌, ◌≤◌, ◌<◌}
+use Prim.Native.Nat.{◌+◌, ◌≤◌}
 use mathlib.Core.Path.{◌≡◌, ap}
 use Rattle.std.specs.Prelude.{None}
 use native.Mathlib.Omega.{arith}
 use lib.ListN.{length}
 use borrow.Author.Rules.{rules}
-use Rattle.definitions.specs.Sheet.{name_limit}
 use Rattle.definitions.specs.TermText.{term_text_limit}
 use Rattle.prop_frames.proofs.Binders.{opens_bracket, opens_negation, opens_not, opens_quantifier}
 use Rattle.prop_frames.proofs.open_front.Goals as goal
-use Rattle.prop_frames.proofs.open_front.Goals.{After-size, In_ok-read-in-Binder}
+use Rattle.prop_frames.proofs.open_front.Goals.{After-size}
 
 pub overflow_add-at : goal.overflow_add-at
 unfolding term_text_limit
-overflow_add-at c = omega (arith, c.size.ensures, c.requires.sign_within, c.requires.begins.short)
+overflow_add-at c = omega (arith, c.size.ensures, c.requires.sign_within, c.args.names.now.table.short)
 
 -- after the sign
-after_within : (c : After-size) → c.args.p.at + c.size.result ≤ length c.args.text.now
+after_within : (c : After-size) → c.args.p.at + c.size.result ≤ length c.args.names.now.text.now
 after_within c = rw c.size.ensures c.requires.sign_within
 
 pub returns-in-Bracket : goal.returns-in-Bracket
@@ -30,25 +29,13 @@ returns-in-Negation c ns b =
     (opens_negation b c.requires.begins (rw c.in-Negation.is at (ap (λ n. c.args.p.at + n) c.size.ensures)) (after_within (goal.at.returns-in-Negation c).After-size) c.put.ensures)
 
 pub binder_names-requires : goal.binder_names-requires
-binder_names-requires c =
-    let pre = c.requires.begins in
-    (pre.table, after_within (goal.at.binder_names-requires c).After-size, pre.short)
-
-numbers : (c : In_ok-read-in-Binder) → let read = c.in_ok-read-in-Binder.read in (read.object < 65536) × (read.datatype < 65536)
-unfolding name_limit
-numbers c =
-    let (d, given) = c.in_ok-read-in-Binder.ensures in
-    (omega (arith, given.object_below, given.noted.table.few), omega (arith, given.datatype_below, given.noted.table.few))
+binder_names-requires c = after_within (goal.at.binder_names-requires c).After-size
 
 pub put_binder-requires : goal.put_binder-requires
 unfolding term_text_limit
 put_binder-requires c =
     let pre = c.requires.begins in
-    let few = numbers (goal.at.put_binder-requires c).In_ok-read-in-Binder in
-    (omega (arith, pre.near, pre.within, pre.short), few.0, few.1)
-
-pub overflow_cast-bound : goal.overflow_cast-bound
-overflow_cast-bound c = omega (arith, (numbers (goal.at.overflow_cast-bound c).In_ok-read-in-Binder).0)
+    omega (arith, pre.near, pre.within, c.args.names.now.table.short)
 
 pub returns-in_err-read-in-Binder : goal.returns-in_err-read-in-Binder
 returns-in_err-read-in-Binder c ns b =
