@@ -40,3 +40,6 @@ follows_none (Some r) next h = h r.value r.rest
 -- the same of the same bytes
 pub gives_at : {A : Type 0} (m : Reading A) (at : ℕ) (P : A → List ℕ → Type 0) {s t : List ℕ} → s ≡ t → Gives (m (drop at s)) P → Gives (m (drop at t)) P
 gives_at m at P e h = rw e at h
+
+pub reads_at : {A : Type 0} (m : Reading A) (at r : ℕ) (a : A) {s t : List ℕ} → s ≡ t → m (drop at s) ≡ given a (drop r s) → m (drop at t) ≡ given a (drop r t)
+reads_at m at r a e h = rw e at h

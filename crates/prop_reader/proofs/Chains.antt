@@ -15,8 +15,9 @@ use Rattle.definitions.specs.TermReader.{Shown, standing, same, due, if_read, go
 use Rattle.definitions.proofs.Readings.{given}
 use Rattle.reading_laws.proofs.TermConventions.{Gives, gives_yield, gives_none, gives_then, gives_due, gives_if_read}
 use Rattle.std.proofs.lemmas.List.Edits.{sets}
-use Rattle.words.specs.declared.NameTable.{NameTable}
-use Rattle.words.specs.Table.{added, table_names}
+use Rattle.words.specs.declared.name_table.NameTable.{NameTable}
+use Rattle.words.specs.Names.{added}
+use Rattle.words.specs.Table.{table_names}
 use Rattle.words.proofs.Added.{noted_then}
 use Rattle.prop_parts.specs.Found.{bound_numbers}
 use Rattle.atom_reader.specs.declared.Place.{Place}
@@ -29,7 +30,7 @@ use Rattle.atom_reader.proofs.Storing.{stored_then}
 use Rattle.prop_frames.proofs.Insertion.{insert_stored}
 use Rattle.atom_reader.proofs.Sizes.{code_length_lem, nesting_code, binary_bytes}
 use Rattle.atom_reader.proofs.Scopes.{added_meets, code_kept, binds_noted, crowded_first, crowded_second}
-use Rattle.atom_reader.proofs.Readings.{gives_any}
+use Rattle.atom_reader.proofs.Readings.{gives_any, gives_at, reads_at}
 
 -- With a reading of the sides:
 module _ (part : Part) (names : List Name) where
@@ -110,83 +111,81 @@ level (suc n) least names s h =
 
 -- the left side that was read so far, what is still to be read after it, and what became of the memory
 pub record Joining
-    (names : List Name) (text : List ℕ) (held : NameTable) (bound code : List ℕ) (p : Place) (levels least : ℕ) (after : NameTable) (bound' code' : List ℕ) (left : PropRead) (most : ℕ)
+    (names : List Name) (held : NameTable) (bound code : List ℕ) (p : Place) (levels least : ℕ) (after : NameTable) (bound' code' : List ℕ) (left : PropRead) (most : ℕ)
     : Type 0 where
   pub prop : Prop Name
-  pub reads : read_prop levels least names (drop p.at text)
-      ≡ joined (read_prop (levels - 1)) names most least (standing left.own prop) (drop left.end text)
-  pub read : PropGiven text held code p after code' left prop
+  pub reads : read_prop levels least names (drop p.at held.text.now)
+      ≡ joined (read_prop (levels - 1)) names most least (standing left.own prop) (drop left.end held.text.now)
+  pub read : PropGiven held code p after code' left prop
   pub bound_kept : bound_numbers bound' p.depth ≡ bound_numbers bound p.depth
 
 -- The first unit.
-module _ (names : List Name) {text : List ℕ} {held : NameTable} {bound code : List ℕ} {after : NameTable} {bound' code' : List ℕ} {p : Place} {levels : ℕ} (least : ℕ)
+module _ (names : List Name) {held : NameTable} {bound code : List ℕ} {after : NameTable} {bound' code' : List ℕ} {p : Place} {levels : ℕ} (least : ℕ)
     (deep : levels ≡ 0 → ⊥) where
-  pub unit_fails : PropAnswer (unit (read_prop (levels - 1)) names (drop p.at text)) text held bound code p after bound' code' None
-      → PropAnswer (read_prop levels least names (drop p.at text)) text held bound code p after bound' code' None
+  pub unit_fails : PropAnswer (unit (read_prop (levels - 1)) names (drop p.at held.text.now)) held bound code p after bound' code' None
+      → PropAnswer (read_prop levels least names (drop p.at held.text.now)) held bound code p after bound' code' None
   unit_fails answer = record {
     answer =
-        rw (level levels least names (drop p.at text) deep)
-        (gives_then _ _ (unit (read_prop (levels - 1)) names (drop p.at text)) _ answer.answer λ q t k.
-        joined_crowded (read_prop (levels - 1)) names (table_names held text) (levels - 1) least q t k);
+        rw (level levels least names (drop p.at held.text.now) deep)
+        (gives_then _ _ (unit (read_prop (levels - 1)) names (drop p.at held.text.now)) _ answer.answer λ q t k.
+        joined_crowded (read_prop (levels - 1)) names (table_names held) (levels - 1) least q t k);
     bound_kept = answer.bound_kept;
   }
 
-  pub joining_starts : {left : PropRead} → PropAnswer (unit (read_prop (levels - 1)) names (drop p.at text)) text held bound code p after bound' code' (Some left)
-      → Joining names text held bound code p levels least after bound' code' left (levels - 1)
+  pub joining_starts : {left : PropRead} → PropAnswer (unit (read_prop (levels - 1)) names (drop p.at held.text.now)) held bound code p after bound' code' (Some left)
+      → Joining names held bound code p levels least after bound' code' left (levels - 1)
   unfolding followed_by
   joining_starts answer =
       let (q, reads, read) = answer.answer in
       record {
         prop = q;
-        reads = level levels least names (drop p.at text) deep ∙ rw reads refl;
+        reads = level levels least names (drop p.at held.text.now) deep ∙ rw reads refl;
         read = read;
         bound_kept = answer.bound_kept;
       }
 
 -- Each turn.
-module _ {names : List Name} {text : List ℕ} {held : NameTable} {bound code : List ℕ} {after : NameTable} {bound' code' : List ℕ} {p : Place} {levels least : ℕ} {left : PropRead} {most : ℕ}
-    (j : Joining names text held bound code p levels least after bound' code' left most) where
-  ends : read_prop levels least names (drop p.at text) ≡ given (standing left.own j.prop) (drop left.end text)
-      → PropAnswer (read_prop levels least names (drop p.at text)) text held bound code p after bound' code' (Some left)
+module _ {names : List Name} {held : NameTable} {bound code : List ℕ} {after : NameTable} {bound' code' : List ℕ} {p : Place} {levels least : ℕ} {left : PropRead} {most : ℕ}
+    (j : Joining names held bound code p levels least after bound' code' left most) where
+  ends : read_prop levels least names (drop p.at held.text.now) ≡ given (standing left.own j.prop) (drop left.end held.text.now)
+      → PropAnswer (read_prop levels least names (drop p.at held.text.now)) held bound code p after bound' code' (Some left)
   ends e = record {
     answer = (j.prop, e, j.read);
     bound_kept = j.bound_kept;
   }
 
   -- no more connectives are read
-  pub joining_done : most ≡ 0 → PropAnswer (read_prop levels least names (drop p.at text)) text held bound code p after bound' code' (Some left)
+  pub joining_done : most ≡ 0 → PropAnswer (read_prop levels least names (drop p.at held.text.now)) held bound code p after bound' code' (Some left)
   unfolding joined yield
   joining_done e = ends (j.reads ∙ rw e refl)
 
-  pub joining_ends : 0 < most → goes_on least (drop left.end text) ≡ None
-      → PropAnswer (read_prop levels least names (drop p.at text)) text held bound code p after bound' code' (Some left)
+  pub joining_ends : 0 < most → goes_on least (drop left.end held.text.now) ≡ None
+      → PropAnswer (read_prop levels least names (drop p.at held.text.now)) held bound code p after bound' code' (Some left)
   joining_ends h e =
       let more : most ≡ suc (most - 1) = omega arith in
       ends (j.reads ∙ rw more (joined_ends (read_prop (levels - 1)) names (most - 1) least _ _ e))
 
   -- where the right side may begin
-  pub right_begins : Begins text held bound p levels 0 → Binds names (table_names held text) bound p.depth → (levels ≡ 0 → ⊥)
-      → length bound' ≡ length bound → left.end + 5 ≤ length text
-      → Begins text after bound' (record { at = left.end + 5; depth = p.depth; to = p.to + left.size }) (levels - 1) 0
+  pub right_begins : Begins held bound p levels 0 → Binds names (table_names held) bound p.depth → (levels ≡ 0 → ⊥)
+      → length bound' ≡ length bound → left.end + 5 ≤ length held.text.now
+      → Begins after bound' (record { at = left.end + 5; depth = p.depth; to = p.to + left.size }) (levels - 1) 0
   right_begins pre b deep long h = record {
-    short = pre.short;
-    within = h;
-    table = j.read.noted.table;
+    within = rw j.read.noted.same_text h;
     near = omega (arith, pre.near, j.read.small);
     deep = omega (arith, pre.deep, deep, long);
     binds = (names, binds_noted b j.read.noted j.bound_kept);
   }
 
-  module _ (some_left : 0 < most) {c : Connective} (goes : goes_on least (drop left.end text) ≡ given c (drop (left.end + 5) text))
+  module _ (some_left : 0 < most) {c : Connective} (goes : goes_on least (drop left.end held.text.now) ≡ given c (drop (left.end + 5) held.text.now))
       {asked : ℕ} (asked_is : asked ≡ right_least c) where
     -- the answer of the reader of the right side
     abbrev Right : ℕ → NameTable → List ℕ → List ℕ → Option PropRead → Type 0
     Right least after₂ bound₂ code₂ right =
-        PropAnswer (read_prop (levels - 1) least names (drop (left.end + 5) text)) text after bound' code'
+        PropAnswer (read_prop (levels - 1) least names (drop (left.end + 5) after.text.now)) after bound' code'
         (record { at = left.end + 5; depth = p.depth; to = p.to + left.size }) after₂ bound₂ code₂ right
 
     abbrev Whole : NameTable → List ℕ → List ℕ → Option PropRead → Type 0
-    Whole after₂ bound₂ code₃ whole = PropAnswer (read_prop levels least names (drop p.at text)) text held bound code p after₂ bound₂ code₃ whole
+    Whole after₂ bound₂ code₃ whole = PropAnswer (read_prop levels least names (drop p.at held.text.now)) held bound code p after₂ bound₂ code₃ whole
 
     answer : {after₂ : NameTable} {bound₂ code₂ : List ℕ} {right : Option PropRead} → Right asked after₂ bound₂ code₂ right → Right (right_least c) after₂ bound₂ code₂ right
     answer read = rw asked_is at read
@@ -197,44 +196,52 @@ module _ {names : List Name} {text : List ℕ} {held : NameTable} {bound code : 
       answer =
           let more : most ≡ suc (most - 1) = omega arith in
           rw (j.reads, more)
-          (joined_right (read_prop (levels - 1)) names (table_names held text) (most - 1) least (standing left.own j.prop) _ _ c goes
-          (rw j.read.noted.names at (answer read).answer));
+          (joined_right (read_prop (levels - 1)) names (table_names held) (most - 1) least (standing left.own j.prop) _ _ c goes
+          (rw j.read.noted.names at
+          (gives_at (read_prop (levels - 1) (right_least c) names) (left.end + 5) _ j.read.noted.same_text (answer read).answer)));
       bound_kept = read.bound_kept ∙ j.bound_kept;
     }
 
     module _ {after₂ : NameTable} {bound₂ code₂ : List ℕ} {right : PropRead} (side : Right asked after₂ bound₂ code₂ (Some right)) where
-      pub joinable : Begins text held bound p levels 0 → Joinable text p.to left right
+      pub joinable : Begins held bound p levels 0 → Joinable held.text.now p.to left right
       unfolding term_text_limit
       joinable pre =
           let (q, reads, read) = (answer side).answer in
+          let short = held.table.short in
+          let within : right.end ≤ length held.text.now = rw j.read.noted.same_text at read.within in
           record {
-            within = read.within;
-            near = omega (arith, pre.near, pre.short, read.within, j.read.small, read.small);
-            left_shallow = omega (arith, pre.short, j.read.within, j.read.small, j.read.measured.size_is, j.read.measured.nesting_is, nesting_code j.prop);
-            right_shallow = omega (arith, pre.short, read.within, read.small, read.measured.size_is, read.measured.nesting_is, nesting_code q);
+            within = within;
+            near = omega (arith, pre.near, short, within, j.read.small, read.small);
+            left_shallow = omega (arith, short, j.read.within, j.read.small, j.read.measured.size_is, j.read.measured.nesting_is, nesting_code j.prop);
+            right_shallow = omega (arith, short, within, read.small, read.measured.size_is, read.measured.nesting_is, nesting_code q);
           }
 
-      steps : (q : Prop Name) → read_prop (levels - 1) (right_least c) names (drop (left.end + 5) text) ≡ given (standing right.own q) (drop right.end text)
-          → read_prop levels least names (drop p.at text)
+      steps : (q : Prop Name) → read_prop (levels - 1) (right_least c) names (drop (left.end + 5) held.text.now) ≡ given (standing right.own q) (drop right.end held.text.now)
+          → read_prop levels least names (drop p.at held.text.now)
           ≡ cond (sides_agree c (standing left.own j.prop) (standing right.own q))
-          (joined (read_prop (levels - 1)) names (most - 1) least (standing false (Binary c j.prop q)) (drop right.end text)) None
+          (joined (read_prop (levels - 1)) names (most - 1) least (standing false (Binary c j.prop q)) (drop right.end held.text.now)) None
       unfolding standing
       steps q reads =
           let more : most ≡ suc (most - 1) = omega arith in
-          j.reads ∙ (ap (λ n. joined (read_prop (levels - 1)) names n least (standing left.own j.prop) (drop left.end text)) more ∙ joined_step (read_prop (levels - 1)) names (most - 1) least (standing left.own j.prop) (standing right.own q) _ _ _ c goes reads)
+          j.reads ∙ (ap (λ n. joined (read_prop (levels - 1)) names n least (standing left.own j.prop) (drop left.end held.text.now)) more ∙ joined_step (read_prop (levels - 1)) names (most - 1) least (standing left.own j.prop) (standing right.own q) _ _ _ c goes reads)
+
+      -- the right side is read from the same text
+      same_reads : (q : Prop Name) → read_prop (levels - 1) (right_least c) names (drop (left.end + 5) after.text.now) ≡ given (standing right.own q) (drop right.end after.text.now)
+          → read_prop (levels - 1) (right_least c) names (drop (left.end + 5) held.text.now) ≡ given (standing right.own q) (drop right.end held.text.now)
+      same_reads q = reads_at (read_prop (levels - 1) (right_least c) names) (left.end + 5) right.end (standing right.own q) j.read.noted.same_text
 
       module _ {code₃ : List ℕ} where
-        pub joining_not : ((q : Prop Name) → Measured right q → Joins c j.prop q text code₂ p.to left right code₃ None) → Whole after₂ bound₂ code₃ None
+        pub joining_not : ((q : Prop Name) → Measured right q → Joins c j.prop q held.text.now code₂ p.to left right code₃ None) → Whole after₂ bound₂ code₃ None
         joining_not joins =
             let (q, reads, read) = (answer side).answer in
             let joined = joins q read.measured in
             record {
-              answer = rw (steps q reads, joined.answer) (gives_none _);
+              answer = rw (steps q (same_reads q reads), joined.answer) (gives_none _);
               bound_kept = side.bound_kept ∙ j.bound_kept;
             }
 
-        pub joining_on : {whole : PropRead} → ((q : Prop Name) → Measured right q → Joins c j.prop q text code₂ p.to left right code₃ (Some whole))
-            → Joining names text held bound code p levels least after₂ bound₂ code₃ whole (most - 1)
+        pub joining_on : {whole : PropRead} → ((q : Prop Name) → Measured right q → Joins c j.prop q held.text.now code₂ p.to left right code₃ (Some whole))
+            → Joining names held bound code p levels least after₂ bound₂ code₃ whole (most - 1)
         unfolding prop_names
         joining_on {whole} joins =
             let (q, reads, read) = (answer side).answer in
@@ -242,14 +249,14 @@ module _ {names : List Name} {text : List ℕ} {held : NameTable} {bound code : 
             let made = joined.answer in
             record {
               prop = Binary c j.prop q;
-              reads = rw (made.own_is, made.end_is) (steps q reads ∙ rw made.agrees refl);
+              reads = rw (made.own_is, made.end_is) (steps q (same_reads q reads) ∙ rw made.agrees refl);
               read = record {
-                within = rw made.end_is read.within;
+                within = rw (made.end_is, ← j.read.noted.same_text) read.within;
                 noted = noted_then j.read.noted read.noted;
                 stored =
                     rw (read.noted.names)
-                    (chain_stored code p.to (table_names after text) c j.prop q
-                    (rw j.read.noted.names (added_meets (table_names held text) (prop_names j.prop)))
+                    (chain_stored code p.to (table_names after) c j.prop q
+                    (rw j.read.noted.names (added_meets (table_names held) (prop_names j.prop)))
                     j.read.stored j.read.measured.size_is (rw read.noted.names at read.stored) read.measured.size_is made.stored);
                 measured = made.measured;
                 from = omega (arith, j.read.from, read.from, made.end_is);
@@ -268,6 +275,11 @@ module _ {names : List Name} {text : List ℕ} {held : NameTable} {bound code : 
               bound_kept = side.bound_kept ∙ j.bound_kept;
             }
 
+-- sides are joined alike in the same text
+pub joins_at : {c : Connective} {p q : Prop Name} {s t code after : List ℕ} {to : ℕ} {left right : PropRead} {whole : Option PropRead} → s ≡ t
+    → Joins c p q s code to left right after whole → Joins c p q t code to left right after whole
+joins_at e joins = rw e at joins
+
 -- no level is left
 pub no_level : {levels : ℕ} (least : ℕ) (names : List Name) (s : List ℕ) → levels ≡ 0 → read_prop levels least names s ≡ None
 unfolding read_prop fail
@@ -280,9 +292,9 @@ pub record Turned
   pub within : left'.end ≤ length text
   pub bound_long : length bound' ≡ length bound
   pub code_long : length code' ≡ length code
-  pub keeps : (ns : List Name) (held₀ : NameTable) (bound₀ code₀ : List ℕ) (at : ℕ) → Binds ns (table_names held₀ text) bound₀ depth
-      → Joining ns text held₀ bound₀ code₀ (record { at = at; depth = depth; to = to }) levels least names bound code left most
-      → Joining ns text held₀ bound₀ code₀ (record { at = at; depth = depth; to = to }) levels least names' bound' code' left' most'
+  pub keeps : (ns : List Name) (held₀ : NameTable) (bound₀ code₀ : List ℕ) (at : ℕ) → held₀.text.now ≡ text → Binds ns (table_names held₀) bound₀ depth
+      → Joining ns held₀ bound₀ code₀ (record { at = at; depth = depth; to = to }) levels least names bound code left most
+      → Joining ns held₀ bound₀ code₀ (record { at = at; depth = depth; to = to }) levels least names' bound' code' left' most'
 
 pub turned : {text : List ℕ} {levels least : ℕ} {to depth : ℕ} {names : NameTable} {bound code : List ℕ} {left : PropRead} {most : ℕ}
     → left.end ≤ length text → Turned text levels least to depth names bound code left most names bound code left most
@@ -290,5 +302,5 @@ turned h = record {
   within = h;
   bound_long = refl;
   code_long = refl;
-  keeps = λ ns held₀ bound₀ code₀ at b j. j;
+  keeps = λ ns held₀ bound₀ code₀ at same b j. j;
 }

@@ -16,13 +16,14 @@ use Rattle.definitions.specs.Code.{Read, yield, followed_by, ◌>>=◌}
 use Rattle.definitions.specs.Sheet.{name_limit, code_limit, proposition_nesting_limit}
 use Rattle.definitions.specs.Term.{Label, proposition, datatype}
 use Rattle.definitions.specs.Text.{occurs}
-use Rattle.definitions.specs.TermText.{term_text_limit, prop_names, label_names, code_bytes, lone_label, label_for}
+use Rattle.definitions.specs.TermText.{prop_names, label_names, code_bytes, lone_label, label_for}
 use Rattle.definitions.specs.TermReader.{Shown, standing, same, due, expect, name, connective, read_prop, label, prop_levels, is_limited_label}
 use Rattle.definitions.proofs.Readings.{given}
 use Rattle.reading_laws.proofs.TermConventions.{Gives, gives_yield, gives_then, gives_due}
-use Rattle.words.specs.declared.NameTable.{NameTable}
+use Rattle.words.specs.declared.name_table.NameTable.{NameTable}
 use Rattle.words.specs.Places.{between, Expected, NameEnds}
-use Rattle.words.specs.Table.{add_name, added, TooMany, number_in, table_names, NamePlace, Noted, NumberOf}
+use Rattle.words.specs.Names.{add_name, added, number_in, NamePlace}
+use Rattle.words.specs.Table.{TooMany, table_names, Noted, NumberOf}
 use Rattle.words.proofs.Numbers.{names_length}
 use Rattle.prefix_code.specs.declared.Connective as read
 use Rattle.prop_parts.specs.Found.{ConnectiveAt, bound_numbers}
@@ -69,12 +70,12 @@ module _ {text : List ℕ} {at end : ℕ} (ends : NameEnds text at end) where
   lone_there (Some k) found h no_bracket = absurd (true≢false h)
 
 -- The number of a datatype.
-pub datatype_given : {text : List ℕ} {held after : NameTable} {at end to : ℕ} {found : ℕ} → NumberOf (between at end text) text held after found
-    → DatatypeGiven text at end held to after (record { end = end; label = Datatype found; to = to })
+pub datatype_given : {held after : NameTable} {at end to : ℕ} {found : ℕ} → NumberOf (between at end held.text.now) held after found
+    → DatatypeGiven at end held to after (record { end = end; label = Datatype found; to = to })
 unfolding added
-datatype_given {text} {at = at} {end = end} number = record {
+datatype_given {held} {at = at} {end = end} number = record {
   end_is = refl;
-  label_is = ap Datatype (number.number_is ∙ ap (λ seen. number_in seen (between at end text)) (sym number.noted.names));
+  label_is = ap Datatype (number.number_is ∙ ap (λ seen. number_in seen (between at end held.text.now)) (sym number.noted.names));
   to_is = refl;
   noted = number.noted;
 }
@@ -85,15 +86,13 @@ unfolding Met bound_numbers
 binds_nothing seen bound = record { met = tt; numbers = refl }
 
 -- a proposition may begin where a label does
-pub prop_begins : {text : List ℕ} {held : NameTable} {bound : List ℕ} {at to : ℕ} → LabelBegins text at held to → length bound ≡ 128
-    → Begins text held bound (record { at = at; depth = 0; to = to }) 128 0
-prop_begins {text} {held} {bound} pre long = record {
-  short = pre.short;
+pub prop_begins : {held : NameTable} {bound : List ℕ} {at to : ℕ} → LabelBegins at held to → length bound ≡ 128
+    → Begins held bound (record { at = at; depth = 0; to = to }) 128 0
+prop_begins {held} {bound} pre long = record {
   within = pre.within;
-  table = pre.table;
   near = omega (arith, pre.near);
   deep = omega arith;
-  binds = ([], binds_nothing (table_names held text) bound);
+  binds = ([], binds_nothing (table_names held) bound);
 }
 
 -- Limits.
@@ -128,27 +127,27 @@ unfolding fits_label is_limited_label label_names
 fits_datatype seen a h = rw (le-leb _ _ h) refl
 
 -- noted names are not too many
-few_noted : {xs : List Name} {text : List ℕ} {held after : NameTable} → Noted xs text held after
-    → length (added (table_names held text) xs) ≤ name_limit
-few_noted {text = text} {after = after} noted = rw (← noted.names) (omega (arith, names_length after text, noted.table.few))
+few_noted : {xs : List Name} {held after : NameTable} → Noted xs held after
+    → length (added (table_names held) xs) ≤ name_limit
+few_noted {after = after} noted = rw (← noted.names) (omega (arith, names_length after, after.table.few))
 
 -- what was read, taken apart
 shown_same : {p q : Shown (Prop Name)} {s t : List ℕ} → given p s ≡ given q t → p ≡ q
 shown_same {p} {q} {s} {t} e = ap (λ (r : Read (Shown (Prop Name))). r.value) (same_Some (record { value = p; rest = s }) (record { value = q; rest = t }) e)
 
 -- The proposition of a label.
-pub proposition_not : {text : List ℕ} {held : NameTable} {code : List ℕ} {after : NameTable} {bound bound' code' : List ℕ} {at to : ℕ}
-    → PropAnswer (read_prop 128 0 [] (drop at text)) text held bound code (record { at = at; depth = 0; to = to }) after bound' code' None
-    → PropositionAnswer text at held code to after code' None
+pub proposition_not : {held : NameTable} {code : List ℕ} {after : NameTable} {bound bound' code' : List ℕ} {at to : ℕ}
+    → PropAnswer (read_prop 128 0 [] (drop at held.text.now)) held bound code (record { at = at; depth = 0; to = to }) after bound' code' None
+    → PropositionAnswer at held code to after code' None
 unfolding prop_levels standing
-proposition_not {text} {held} answer = record {
-  answer = λ p s e. crowded_label (table_names held text) p (gives_holds _ _ (standing false p) s answer.answer e);
+proposition_not {held} answer = record {
+  answer = λ p s e. crowded_label (table_names held) p (gives_holds _ _ (standing false p) s answer.answer e);
 }
 
-module _ {text : List ℕ} {held : NameTable} {code : List ℕ} {after : NameTable} {bound bound' code' : List ℕ} {at to : ℕ} {read : PropRead}
-    (found : PropAnswer (read_prop 128 0 [] (drop at text)) text held bound code (record { at = at; depth = 0; to = to }) after bound' code' (Some read)) where
+module _ {held : NameTable} {code : List ℕ} {after : NameTable} {bound bound' code' : List ℕ} {at to : ℕ} {read : PropRead}
+    (found : PropAnswer (read_prop 128 0 [] (drop at held.text.now)) held bound code (record { at = at; depth = 0; to = to }) after bound' code' (Some read)) where
   -- what was read stands in brackets of its own, or passes a limit
-  pub proposition_bracketed : read.own ≡ true → PropositionAnswer text at held code to after code' None
+  pub proposition_bracketed : read.own ≡ true → PropositionAnswer at held code to after code' None
   unfolding prop_levels standing
   proposition_bracketed own =
       let (q, reads, given) = found.answer in
@@ -156,8 +155,8 @@ module _ {text : List ℕ} {held : NameTable} {code : List ℕ} {after : NameTab
         answer = λ p s e. absurd (true≢false (sym own ∙ ap (λ (x : Shown (Prop Name)). x.own) (shown_same (sym reads ∙ e))));
       }
 
-  proposition_past : ((p : Prop Name) → read.size ≡ code_bytes p → read.nesting ≡ prop.nesting p → fits_label (table_names held text) (proposition p) ≡ false)
-      → PropositionAnswer text at held code to after code' None
+  proposition_past : ((p : Prop Name) → read.size ≡ code_bytes p → read.nesting ≡ prop.nesting p → fits_label (table_names held) (proposition p) ≡ false)
+      → PropositionAnswer at held code to after code' None
   unfolding prop_levels standing
   proposition_past past =
       let (q, reads, given) = found.answer in
@@ -167,14 +166,14 @@ module _ {text : List ℕ} {held : NameTable} {code : List ℕ} {after : NameTab
             rw is at (past q given.measured.size_is given.measured.nesting_is);
       }
 
-  pub proposition_deep : proposition_nesting_limit < read.nesting → PropositionAnswer text at held code to after code' None
-  proposition_deep deep = proposition_past (λ p size nests. deep_label (table_names held text) p (omega (arith, nests)))
+  pub proposition_deep : proposition_nesting_limit < read.nesting → PropositionAnswer at held code to after code' None
+  proposition_deep deep = proposition_past (λ p size nests. deep_label (table_names held) p (omega (arith, nests)))
 
-  pub proposition_large : code_limit < read.size → PropositionAnswer text at held code to after code' None
-  proposition_large large = proposition_past (λ p size nests. large_label (table_names held text) p (omega (arith, size)))
+  pub proposition_large : code_limit < read.size → PropositionAnswer at held code to after code' None
+  proposition_large large = proposition_past (λ p size nests. large_label (table_names held) p (omega (arith, size)))
 
-  pub proposition_given : LabelBegins text at held to → read.own ≡ false → read.nesting ≤ proposition_nesting_limit → read.size ≤ code_limit
-      → PropositionAnswer text at held code to after code'
+  pub proposition_given : LabelBegins at held to → read.own ≡ false → read.nesting ≤ proposition_nesting_limit → read.size ≤ code_limit
+      → PropositionAnswer at held code to after code'
       (Some (record { end = read.end; label = Proposition (to / 2); to = to + read.size + read.size % 2 }))
   unfolding prop_levels
   proposition_given pre own shallow small =
@@ -186,7 +185,7 @@ module _ {text : List ℕ} {held : NameTable} {code : List ℕ} {after : NameTab
           record {
             within = given.within;
             reads = rw own at reads;
-            fits = fits_prop (table_names held text) q (omega (arith, m.nesting_is)) (omega (arith, m.size_is)) (few_noted given.noted);
+            fits = fits_prop (table_names held) q (omega (arith, m.nesting_is)) (omega (arith, m.size_is)) (few_noted given.noted);
             noted = given.noted;
             label_is = refl;
             stored = given.stored;
@@ -213,14 +212,14 @@ labelled : (types : List Name) (levels : ℕ) (s : List ℕ) (x : Read (Label Na
 labelled types levels s x e = gives_holds (label types levels s) _ x.value x.rest (label_gives types levels s) e
 
 -- the text of a proposition that is no lone listed name
-module _ (types : List Name) {text : List ℕ} {held : NameTable} {code : List ℕ} {after : NameTable} {code' : List ℕ} {at to : ℕ}
-    (unlisted : (p : Prop Name) (s : List ℕ) → read_prop prop_levels 0 [] (drop at text) ≡ given (standing false p) s → label_for types p ≡ proposition p) where
-  pub proposition_label : (r : Option (LabelRead numbered.Label)) → PropositionAnswer text at held code to after code' r
-      → LabelAnswer text at types held code to after code' r
+module _ (types : List Name) {held : NameTable} {code : List ℕ} {after : NameTable} {code' : List ℕ} {at to : ℕ}
+    (unlisted : (p : Prop Name) (s : List ℕ) → read_prop prop_levels 0 [] (drop at held.text.now) ≡ given (standing false p) s → label_for types p ≡ proposition p) where
+  pub proposition_label : (r : Option (LabelRead numbered.Label)) → PropositionAnswer at held code to after code' r
+      → LabelAnswer at types held code to after code' r
   unfolding label ◌>>=◌ followed_by due same yield standing label_names
   proposition_label None answer = record {
     answer = λ x e.
-        let (p, reads, is) = labelled types prop_levels (drop at text) x e in
+        let (p, reads, is) = labelled types prop_levels (drop at held.text.now) x e in
         rw (is, unlisted p x.rest reads) (answer.answer p x.rest reads);
   }
   proposition_label (Some r) answer =
@@ -230,7 +229,7 @@ module _ (types : List Name) {text : List ℕ} {held : NameTable} {code : List �
           proposition p,
           record {
             within = given.within;
-            reads = rw given.reads (ap (λ x. Some (record { value = x; rest = drop r.end text })) (unlisted p (drop r.end text) given.reads));
+            reads = rw given.reads (ap (λ x. Some (record { value = x; rest = drop r.end held.text.now })) (unlisted p (drop r.end held.text.now) given.reads));
             fits = given.fits;
             noted = given.noted;
             kept = of_proposition given.label_is given.stored given.to_is;
@@ -267,8 +266,8 @@ module _ {text : List ℕ} {at r : ℕ} (ends : LoneEnds text at r) where
   unfolding prop_levels
   lone_prop = lone_reads 128 (between at r text) _ _ (λ e. absurd (omega arith)) ends.reads ends.no_bracket ends.no_connective
 
-  pub lone_place : length text ≤ term_text_limit → NamePlace text at r
-  lone_place short = record { short = short; some = ends.from; few = ends.short; within = ends.within }
+  pub lone_place : NamePlace text at r
+  lone_place = record { some = ends.from; few = ends.short; within = ends.within }
 
   module _ (types : List Name) {t : Bool} (tested : t ≡ occurs eq_name (between at r text) types) where
     -- which is not listed
@@ -279,36 +278,36 @@ module _ {text : List ℕ} {at r : ℕ} (ends : LoneEnds text at r) where
         let is : Atom (between at r text) [] ≡ p = ap (λ (x : Shown (Prop Name)). x.shown) (shown_same (sym lone_prop ∙ reads)) in
         rw (← is, sym tested ∙ e) refl
 
-    -- which is listed
-    pub lone_listed : {held : NameTable} {code : List ℕ} {after : NameTable} {to : ℕ} (w : Option (LabelRead numbered.Label)) → t ≡ true → to % 2 ≡ 0
-        → MatchOption w (TooMany (between at r text) text held) (DatatypeGiven text at r held to after)
-        → LabelAnswer text at types held code to after code w
-    unfolding label ◌>>=◌ followed_by due same yield standing label_names
-    lone_listed {held} {code} {after} {to} w e even found = go w found
-      where
-        reads : label types prop_levels (drop at text) ≡ given (datatype (between at r text)) (drop r text)
-        reads = rw lone_prop (ap (λ x. Some (record { value = x; rest = drop r text })) (listed_label types (between at r text) (sym tested ∙ e)))
+  -- which is listed
+  lone_datatype : (types : List Name) → occurs eq_name (between at r text) types ≡ true
+      → label types prop_levels (drop at text) ≡ given (datatype (between at r text)) (drop r text)
+  unfolding label ◌>>=◌ followed_by due same yield standing
+  lone_datatype types listed = rw lone_prop (ap (λ x. Some (record { value = x; rest = drop r text })) (listed_label types (between at r text) listed))
 
-        go : (w : Option (LabelRead numbered.Label)) → MatchOption w (TooMany (between at r text) text held) (DatatypeGiven text at r held to after)
-            → LabelAnswer text at types held code to after code w
-        go None many = record {
-          answer = λ x f.
-              let is : datatype (between at r text) ≡ x.value =
-              ap (λ (y : Read (Label Name)). y.value) (same_Some (record { value = datatype (between at r text); rest = drop r text }) x (sym reads ∙ f)) in
-              rw (← is) (crowded_datatype (table_names held text) (between at r text) many);
-        }
-        go (Some w) named = record {
-          answer = (
-            datatype (between at r text),
-            record {
-              within = rw named.end_is ends.within;
-              reads = rw named.end_is reads;
-              fits = fits_datatype (table_names held text) (between at r text) (few_noted named.noted);
-              noted = named.noted;
-              kept = of_datatype named.label_is refl named.to_is;
-              from = omega (arith, ends.from, named.end_is);
-              even = rw named.to_is even;
-              near = omega (arith, ends.from, named.end_is, named.to_is);
-            },
-          );
-        }
+-- A lone listed name is a datatype.
+pub lone_listed : {held : NameTable} {at r : ℕ} (types : List Name) {code : List ℕ} {after : NameTable} {to : ℕ} (w : Option (LabelRead numbered.Label)) → LoneEnds held.text.now at r
+    → occurs eq_name (between at r held.text.now) types ≡ true → to % 2 ≡ 0
+    → MatchOption w (TooMany (between at r held.text.now) held) (DatatypeGiven at r held to after) → LabelAnswer at types held code to after code w
+unfolding label_names
+lone_listed {held} {at} {r} types None ends listed even many = record {
+  answer = λ x f.
+      let here : Read (Label Name) = record { value = datatype (between at r held.text.now); rest = drop r held.text.now } in
+      let is : datatype (between at r held.text.now) ≡ x.value =
+      ap (λ (y : Read (Label Name)). y.value) (same_Some here x (sym (lone_datatype ends types listed) ∙ f)) in
+      rw (← is) (crowded_datatype (table_names held) (between at r held.text.now) many);
+}
+lone_listed {held} {at} {r} types (Some w) ends listed even named = record {
+  answer = (
+    datatype (between at r held.text.now),
+    record {
+      within = rw named.end_is ends.within;
+      reads = rw named.end_is (lone_datatype ends types listed);
+      fits = fits_datatype (table_names held) (between at r held.text.now) (few_noted named.noted);
+      noted = named.noted;
+      kept = of_datatype named.label_is refl named.to_is;
+      from = omega (arith, ends.from, named.end_is);
+      even = rw named.to_is even;
+      near = omega (arith, ends.from, named.end_is, named.to_is);
+    },
+  );
+}

@@ -17,8 +17,9 @@ use Rattle.definitions.specs.TermReader.{Shown, standing, name, expect, if_read,
 use Rattle.definitions.proofs.Readings.{given}
 use Rattle.reading_laws.proofs.TermConventions.{Gives, gives_yield, gives_none, gives_then, gives_due}
 use Rattle.std.proofs.lemmas.List.Edits.{sets}
-use Rattle.words.specs.declared.NameTable.{NameTable}
-use Rattle.words.specs.Table.{added, table_names}
+use Rattle.words.specs.declared.name_table.NameTable.{NameTable}
+use Rattle.words.specs.Names.{added}
+use Rattle.words.specs.Table.{table_names}
 use Rattle.words.proofs.Added.{noted_then, met_added}
 use Rattle.prop_parts.specs.declared.Constant.{Constant}
 use Rattle.prop_parts.specs.declared.Constant.TheVariants.{Top, Bottom}
@@ -31,7 +32,7 @@ use Rattle.prop_frames.specs.Fronts.{Part, Front, negated, bracketed, quantified
 use Rattle.atom_reader.proofs.Storing.{stored_then}
 use Rattle.atom_reader.proofs.Sizes.{code_length_lem, nesting_code, negation_bytes, quantified_bytes}
 use Rattle.atom_reader.proofs.Scopes.{added_meets, crowded_second}
-use Rattle.atom_reader.proofs.Readings.{gives_any}
+use Rattle.atom_reader.proofs.Readings.{gives_any, gives_at, reads_at}
 
 -- what is read first decides
 module _ (part : Part) (names : List Name) (s : List ℕ) where
@@ -48,8 +49,8 @@ module _ (part : Part) (names : List Name) (s : List ℕ) where
   unit_lacks e f = rw (e, f) refl
 
 -- nothing stands there
-pub answers_none : {reading : Option (Read (Shown (Prop Name)))} {text : List ℕ} {held : NameTable} {bound code : List ℕ} {after : NameTable} {p : Place}
-    → reading ≡ None → PropAnswer reading text held bound code p after bound code None
+pub answers_none : {reading : Option (Read (Shown (Prop Name)))} {held : NameTable} {bound code : List ℕ} {after : NameTable} {p : Place}
+    → reading ≡ None → PropAnswer reading held bound code p after bound code None
 answers_none e = record { answer = rw e (gives_none _); bound_kept = refl }
 
 -- What belongs to a front.
@@ -104,26 +105,24 @@ bound_less a b m (suc n) h e = by_cases (dec_le m n)
     (λ k. let all : m ≡ suc n = omega arith in rw all e)
 
 -- where the part may begin
-pub front_begins : {g : Sign} {names : List Name} {text : List ℕ} {held : NameTable} {bound code : List ℕ} {mid : NameTable} {mid-bound mid-code : List ℕ} {p place : Place} {f : Front} {levels : ℕ}
-    → FrontGiven g names text held bound code p mid mid-bound mid-code place f → Begins text held bound p (levels + 1) 0
-    → length mid-bound ≡ length bound → Begins text mid mid-bound place levels 0
+pub front_begins : {g : Sign} {names : List Name} {held : NameTable} {bound code : List ℕ} {mid : NameTable} {mid-bound mid-code : List ℕ} {p place : Place} {f : Front} {levels : ℕ}
+    → FrontGiven g names held bound code p mid mid-bound mid-code place f → Begins held bound p (levels + 1) 0
+    → length mid-bound ≡ length bound → Begins mid mid-bound place levels 0
 front_begins {names = names} {f = f} front pre same = record {
-  short = pre.short;
-  within = front.within;
-  table = front.noted.table;
+  within = rw front.noted.same_text front.within;
   near = omega (arith, pre.near, front.to_is, front.small);
   deep = omega (arith, pre.deep, front.depth, same);
   binds = (part_bound f names, front.binds);
 }
 
 -- a part that was read is not too large to be closed
-pub closable : {text : List ℕ} {held : NameTable} {code mid-code : List ℕ} {after : NameTable} {p : Place} {r : PropRead} {q : Prop Name}
-    → length text ≤ term_text_limit → p.to ≤ 2 * p.at → PropGiven text held code p after mid-code r q → Closable text p.to r
+pub closable : {held : NameTable} {code mid-code : List ℕ} {after : NameTable} {p : Place} {r : PropRead} {q : Prop Name}
+    → p.to ≤ 2 * p.at → PropGiven held code p after mid-code r q → Closable held.text.now p.to r
 unfolding term_text_limit
-closable {q = q} short near read = record {
+closable {held} {q = q} near read = record {
   within = read.within;
-  near = omega (arith, short, near, read.within, read.small);
-  shallow = omega (arith, short, read.within, read.small, read.measured.size_is, read.measured.nesting_is, nesting_code q);
+  near = omega (arith, held.table.short, near, read.within, read.small);
+  shallow = omega (arith, held.table.short, read.within, read.small, read.measured.size_is, read.measured.nesting_is, nesting_code q);
 }
 
 -- the code of the front, of the part, and of what follows it
@@ -142,16 +141,16 @@ front_stored l to seen ys f q {at} {n} {one} {two} {three} met first at-is secon
     ∙ ap (sets l to) (ap (λ c. (c ++ b) ++ back_code f) (sym (front_kept seen ys f met)) ∙ sym (front_code_lem (added seen ys) f q))
 
 -- A front and its part.
-module _ {g : Sign} {names : List Name} {text : List ℕ} {held : NameTable} {bound code : List ℕ} {mid : NameTable} {mid-bound mid-code : List ℕ} {p place : Place} {f : Front}
-    (front : FrontGiven g names text held bound code p mid mid-bound mid-code place f)
+module _ {g : Sign} {names : List Name} {held : NameTable} {bound code : List ℕ} {mid : NameTable} {mid-bound mid-code : List ℕ} {p place : Place} {f : Front}
+    (front : FrontGiven g names held bound code p mid mid-bound mid-code place f)
     (bound_kept : bound_numbers mid-bound p.depth ≡ bound_numbers bound p.depth)
     (part : Part) {asked : ℕ} (Asked-is : asked ≡ part_least f) where
   abbrev Answer : NameTable → List ℕ → List ℕ → ℕ → Option PropRead → Type 0
-  Answer after bound' code' least r = PropAnswer (part least (part_bound f names) (drop place.at text)) text mid mid-bound mid-code place after bound' code' r
+  Answer after bound' code' least r = PropAnswer (part least (part_bound f names) (drop place.at mid.text.now)) mid mid-bound mid-code place after bound' code' r
 
   abbrev Whole : NameTable → List ℕ → List ℕ → Option PropRead → Type 0
   Whole after bound' code'' r =
-      PropAnswer (followed_by (part (part_least f) (part_bound f names) (drop place.at text)) (closing f)) text held bound code p after bound' code'' r
+      PropAnswer (followed_by (part (part_least f) (part_bound f names) (drop place.at held.text.now)) (closing f)) held bound code p after bound' code'' r
 
   inner : {after : NameTable} {bound' code' : List ℕ} {r : Option PropRead} → Answer after bound' code' asked r → Answer after bound' code' (part_least f) r
   inner answer = rw Asked-is at answer
@@ -163,20 +162,21 @@ module _ {g : Sign} {names : List Name} {text : List ℕ} {held : NameTable} {bo
   unfolding standing
   part_not answer = record {
     answer =
-        gives_then _ _ (part (part_least f) (part_bound f names) (drop place.at text)) (closing f) (inner answer).answer λ q t k.
+        gives_then _ _ (part (part_least f) (part_bound f names) (drop place.at held.text.now)) (closing f)
+        (gives_at (part (part_least f) (part_bound f names)) place.at _ front.noted.same_text (inner answer).answer) λ q t k.
         gives_closing f q t _ λ own u.
-        rw (front_names_lem f q.shown) (crowded_second (table_names held text) (front_names f) (prop_names q.shown) (rw front.noted.names at k));
+        rw (front_names_lem f q.shown) (crowded_second (table_names held) (front_names f) (prop_names q.shown) (rw front.noted.names at k));
     bound_kept = kept_then _ answer.bound_kept;
   }
 
   pub part_closed : {after : NameTable} {bound' code' code'' : List ℕ} {r : PropRead} (w : Option PropRead) → Answer after bound' code' asked (Some r)
-      → ((q : Prop Name) → Measured r q → Closes f q text code' place.to r code'' w) → Whole after bound' code'' w
+      → ((q : Prop Name) → Measured r q → Closes f q held.text.now code' place.to r code'' w) → Whole after bound' code'' w
   unfolding followed_by
   part_closed None answer closes =
       let (q, reads, read) = (inner answer).answer in
       let closed = closes q read.measured in
       record {
-        answer = rw (reads, closed.answer) (gives_none _);
+        answer = rw (reads_at (part (part_least f) (part_bound f names)) place.at _ _ front.noted.same_text reads, closed.answer) (gives_none _);
         bound_kept = kept_then _ answer.bound_kept;
       }
   part_closed (Some w) answer closes =
@@ -186,14 +186,14 @@ module _ {g : Sign} {names : List Name} {text : List ℕ} {held : NameTable} {bo
       record {
         answer = (
           around f q,
-          rw reads whole.reads,
+          rw (reads_at (part (part_least f) (part_bound f names)) place.at _ _ front.noted.same_text reads) whole.reads,
           record {
             within = whole.within;
             noted = rw (front_names_lem f q) (noted_then front.noted read.noted);
             stored =
                 rw (read.noted.names)
-                (front_stored code p.to (table_names mid text) (prop_names q) f q
-                (rw front.noted.names (added_meets (table_names held text) (front_names f)))
+                (front_stored code p.to (table_names mid) (prop_names q) f q
+                (rw front.noted.names (added_meets (table_names held) (front_names f)))
                 front.stored front.to_is (rw read.noted.names at read.stored) read.measured.size_is whole.stored);
             measured = whole.measured;
             from = omega (arith, front.from, read.from, whole.from);
@@ -204,12 +204,10 @@ module _ {g : Sign} {names : List Name} {text : List ℕ} {held : NameTable} {bo
       }
 
 -- fewer levels suffice for less
-pub begins_less : {text : List ℕ} {held : NameTable} {bound : List ℕ} {p : Place} {levels slack : ℕ} (fewer : ℕ) → fewer ≤ levels → Begins text held bound p levels slack
-    → Begins text held bound p fewer slack
+pub begins_less : {held : NameTable} {bound : List ℕ} {p : Place} {levels slack : ℕ} (fewer : ℕ) → fewer ≤ levels → Begins held bound p levels slack
+    → Begins held bound p fewer slack
 begins_less fewer h pre = record {
-  short = pre.short;
   within = pre.within;
-  table = pre.table;
   near = pre.near;
   deep = omega (arith, pre.deep);
   binds = pre.binds;
@@ -222,7 +220,7 @@ constant_size Top = refl
 constant_size Bottom = refl
 
 -- the front is not read
-pub front_not : (part : Part) {g : Sign} {names : List Name} {text : List ℕ} {held : NameTable} {bound code : List ℕ} {mid : NameTable} {bound' code' : List ℕ} {p : Place}
-    → FrontAnswer g names text held bound code p mid bound' code' None
-    → PropAnswer (signed part names g (drop (p.at + sign_size g) text)) text held bound code p mid bound' code' None
+pub front_not : (part : Part) {g : Sign} {names : List Name} {held : NameTable} {bound code : List ℕ} {mid : NameTable} {bound' code' : List ℕ} {p : Place}
+    → FrontAnswer g names held bound code p mid bound' code' None
+    → PropAnswer (signed part names g (drop (p.at + sign_size g) held.text.now)) held bound code p mid bound' code' None
 front_not part front = record { answer = front.answer part; bound_kept = front.bound_kept }

@@ -7,7 +7,8 @@ ghost use Rattle.definitions.specs.CallerNames.{names_in};
 ghost use Rattle.definitions.specs.Name.{Name};
 ghost use Rattle.definitions.specs.TermReader.{unit, read_prop};
 ghost use Rattle.words.specs.Places.{between};
-ghost use Rattle.words.specs.Table.{table_names, Table, NamePlace, TooMany};
+ghost use Rattle.words.specs.Names.{NamePlace};
+ghost use Rattle.words.specs.Table.{table_names, TooMany};
 ghost use Rattle.atom_reader.specs.Scope.{Binds};
 ghost use Rattle.atom_reader.specs.Reading.{Begins, PropAnswer};
 ghost use Rattle.prop_reader.specs.Answer.{LoneLacks, LoneEnds, DatatypeGiven, PropositionAnswer, LabelBegins, LabelAnswer};
@@ -23,34 +24,34 @@ use words::{NameTable, expect, name_end};
 // Twice as many levels as a proposition may nest: brackets take one.
 const LEVELS: usize = 2 * NESTING_LIMIT;
 
-// The readers are given `text`, `names`, `bound`, `code` and the place apart, as in atom_reader and prop_frames.
+// The readers are given `names`, `bound`, `code` and the place apart, as in atom_reader and prop_frames.
 
 // An atom, a sign with what belongs to it, or a proposition in brackets, whose parts are read so many levels deep.
 #[cycle(read_prop_read_unit)]
 fn read_unit(
-    text: &[u8],
     names: &mut NameTable,
     bound: &mut [u16],
     code: &mut [u8],
     p: Place,
     levels: usize,
 ) -> Option<PropRead>
-    requires { Begins text.now names.old bound.old p (levels + 1) 0 }
+    requires { Begins names.old bound.old p (levels + 1) 0 }
     ensures { (ns : List Name) →
-        Binds ns (table_names names.old text.now) bound.old p.depth →
-        PropAnswer (unit (read_prop levels) ns (drop p.at text.now))
-        text.now names.old bound.old code.old p
+        Binds ns (table_names names.old) bound.old p.depth →
+        PropAnswer (unit (read_prop levels) ns (drop p.at names.old.text.now))
+        names.old bound.old code.old p
         names.new bound.new code.new result }
 {
+    let text = names.text;
     if let Some(end) = name_end(text, p.at) {
-        return read_atom(text, names, bound, code, p, end);
+        return read_atom(names, bound, code, p, end);
     }
     match sign_at(text, p.at)? {
         Sign::Constant(sign) => Some(read_constant(text, code, p, sign)),
         Sign::Opening(sign) => {
-            let place = open_front(text, names, bound, code, p, sign)?;
+            let place = open_front(names, bound, code, p, sign)?;
             let least = part_least(sign);
-            let part = read_prop(text, names, bound, code, place, levels, least)?;
+            let part = read_prop(names, bound, code, place, levels, least)?;
             close_prop(text, code, place.to, sign, part)
         }
     }
@@ -59,7 +60,6 @@ fn read_unit(
 // A proposition that binds at least so strongly, read so many levels deep.
 #[cycle(read_prop_read_unit)]
 fn read_prop(
-    text: &[u8],
     names: &mut NameTable,
     bound: &mut [u16],
     code: &mut [u8],
@@ -67,19 +67,20 @@ fn read_prop(
     levels: usize,
     least: usize,
 ) -> Option<PropRead>
-    requires { Begins text.now names.old bound.old p levels 0 }
+    requires { Begins names.old bound.old p levels 0 }
     ensures { (ns : List Name) →
-        Binds ns (table_names names.old text.now) bound.old p.depth →
-        PropAnswer (read_prop levels least ns (drop p.at text.now))
-        text.now names.old bound.old code.old p
+        Binds ns (table_names names.old) bound.old p.depth →
+        PropAnswer (read_prop levels least ns (drop p.at names.old.text.now))
+        names.old bound.old code.old p
         names.new bound.new code.new result }
 {
     if levels == 0 {
         return None;
     }
+    let text = names.text;
     let to = p.to;
     let depth = p.depth;
-    let mut left = read_unit(text, names, bound, code, p, levels - 1)?;
+    let mut left = read_unit(names, bound, code, p, levels - 1)?;
     for _ in 1..levels {
         let Some(connective) = goes_on(text, left.end, least) else {
             return Some(left);
@@ -90,7 +91,7 @@ fn read_prop(
             to: to + left.size,
         };
         let asked = connective.right_least();
-        let right = read_prop(text, names, bound, code, place, levels - 1, asked)?;
+        let right = read_prop(names, bound, code, place, levels - 1, asked)?;
         left = join(text, code, to, connective, left, right)?;
     }
     Some(left)
@@ -122,39 +123,37 @@ fn lone_end(text: &[u8], at: usize) -> Option<usize>
 
 // The datatype whose name stands from `at` to `end`.
 fn read_datatype(
-    text: &[u8],
+    names: &mut NameTable,
     at: usize,
     end: usize,
-    names: &mut NameTable,
     to: usize,
 ) -> Option<LabelRead<Label>>
-    requires { Table names.old text.now × NamePlace text.now at end }
-    ensures { MatchOption result (TooMany (between at end text.now) text.now names.old)
-        (DatatypeGiven text.now at end names.old to names.new) }
+    requires { NamePlace names.old.text.now at end }
+    ensures { MatchOption result (TooMany (between at end names.old.text.now) names.old)
+        (DatatypeGiven at end names.old to names.new) }
 {
-    let number = names.number_of_name(text, at, end)?;
+    let number = names.number_of_name(at, end)?;
     Some(LabelRead {
         end,
-        label: Label::Datatype(number as u16),
+        label: Label::Datatype(number),
         to,
     })
 }
 
 // The proposition at `at`, within the limits and in no brackets of its own.
 fn read_proposition(
-    text: &[u8],
-    at: usize,
     names: &mut NameTable,
+    at: usize,
     code: &mut [u8],
     to: usize,
 ) -> Option<LabelRead<Label>>
-    requires { LabelBegins text.now at names.old to }
-    ensures { PropositionAnswer text.now at names.old code.old to
+    requires { LabelBegins at names.old to }
+    ensures { PropositionAnswer at names.old code.old to
         names.new code.new result }
 {
     let mut bound = [0u16; LEVELS];
     let p = Place { at, depth: 0, to };
-    let read = read_prop(text, names, &mut bound, code, p, LEVELS, 0)?;
+    let read = read_prop(names, &mut bound, code, p, LEVELS, 0)?;
     let size = read.size;
     if read.own {
         return None;
@@ -174,22 +173,21 @@ fn read_proposition(
 
 // The label at `at`. A proposition's number is half the offset of its code; a lone listed name is a datatype.
 pub fn read_label(
-    text: &[u8],
+    names: &mut NameTable,
     at: usize,
     types: &[u8],
-    names: &mut NameTable,
     code: &mut [u8],
     to: usize,
 ) -> Option<LabelRead<Label>>
-    requires { LabelBegins text.now at names.old to }
-    ensures { LabelAnswer text.now at (names_in types.now) names.old
+    requires { LabelBegins at names.old to }
+    ensures { LabelAnswer at (names_in types.now) names.old
         code.old to names.new code.new result }
 {
-    let Some(end) = lone_end(text, at) else {
-        return read_proposition(text, at, names, code, to);
+    let Some(end) = lone_end(names.text, at) else {
+        return read_proposition(names, at, code, to);
     };
-    if is_listed(types, &text[at..end]) {
-        return read_datatype(text, at, end, names, to);
+    if is_listed(types, &names.text[at..end]) {
+        return read_datatype(names, at, end, to);
     }
-    read_proposition(text, at, names, code, to)
+    read_proposition(names, at, code, to)
 }

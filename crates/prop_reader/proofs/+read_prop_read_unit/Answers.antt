@@ -1,21 +1,22 @@
 -- The calls end by the levels: a unit's parts are a level deeper than it, and so are the sides after it.
 use Prim.Native.Nat.{ℕ, ◌+◌, ◌-◌}
-use mathlib.Core.Path.{◌≡◌, ◌∙◌}
+use mathlib.Core.Path.{◌≡◌, refl, sym, ap, ◌∙◌}
 use mathlib.Core.List.{List}
 use native.Mathlib.Omega.{arith}
 use lib.ListN.{length, drop}
 use Rattle.definitions.specs.Name.{Name}
 use Rattle.definitions.specs.TermText.{term_text_limit}
-use Rattle.definitions.specs.TermReader.{signed, unit, read_prop}
+use Rattle.definitions.specs.TermReader.{goes_on, signed, unit, read_prop}
 use Rattle.words.specs.Table.{table_names}
 use Rattle.prop_parts.specs.Found.{opening_sign, sign_size}
 use Rattle.prop_parts.proofs.Named.{name_place}
 use Rattle.atom_reader.specs.Scope.{Binds}
 use Rattle.atom_reader.specs.Reading.{Begins}
 use Rattle.prop_frames.specs.Fronts.{part_bound}
+use Rattle.atom_reader.proofs.Readings.{reads_at}
 use Rattle.atom_reader.proofs.Scopes.{binds_noted}
 use Rattle.prop_reader.proofs.Units.{unit_atom, unit_signed, unit_lacks, constant_size, answers_none, begins_less, front_begins, front_not, closable, part_not, part_closed}
-use Rattle.prop_reader.proofs.Chains.{no_level, Joining, unit_fails, joining_starts, joining_done, joining_ends, right_begins, right_not, joinable, joining_not, joining_on, turned}
+use Rattle.prop_reader.proofs.Chains.{no_level, Joining, unit_fails, joining_starts, joining_done, joining_ends, right_begins, right_not, joinable, joining_not, joining_on, joins_at, turned}
 use Rattle.prop_reader.proofs.+read_prop_read_unit.Goals as goal
 use Rattle.prop_reader.proofs.+read_prop_read_unit.Goals.{read_prop-After-read_prop, read_prop-At-loop, read_prop-In-Some, read_unit-In-Opening}
 
@@ -32,11 +33,11 @@ read_prop-returns-in_err-left t c ns b =
 
 -- what was read so far
 so_far : (t : ℕ) → (c : read_prop-At-loop t) → let s = c.args in
-    (ns : List Name) → Binds ns (table_names s.names.now s.text.now) s.bound.now s.p.depth
-    → Joining ns s.text.now s.names.now s.bound.now s.code.now s.p s.levels s.least
+    (ns : List Name) → Binds ns (table_names s.names.now) s.bound.now s.p.depth
+    → Joining ns s.names.now s.bound.now s.code.now s.p s.levels s.least
     c.loop.names c.loop.bound c.loop.code c.loop.left (s.levels - c.loop.counter)
 so_far t c ns b =
-    c.loop.invariant.keeps ns _ _ _ _ b (joining_starts ns _ c.if-levels-eq0.false (c.in_ok-left.ensures ns b))
+    c.loop.invariant.keeps ns _ _ _ _ refl b (joining_starts ns _ c.if-levels-eq0.false (c.in_ok-left.ensures ns b))
 
 pub read_prop-returns-in_default : goal.read_prop-returns-in_default
 read_prop-returns-in_default t c ns b =
@@ -45,7 +46,7 @@ read_prop-returns-in_default t c ns b =
 -- the right side may begin where it does
 right_place : (t : ℕ) → (c : read_prop-In-Some t) → let loop = c.loop in
     let s = c.args in
-    Begins s.text.now loop.names loop.bound
+    Begins loop.names loop.bound
     (record { at = loop.left.end + 5; depth = s.p.depth; to = s.p.to + loop.left.size }) (s.levels - 1) 0
 right_place t c =
     let (ns, b) = c.requires.binds in
@@ -56,13 +57,13 @@ pub read_prop-overflow_add-place : goal.read_prop-overflow_add-place
 unfolding term_text_limit
 read_prop-overflow_add-place t c =
     let place = right_place t (goal.at.read_prop-overflow_add-place t c).In-Some in
-    omega (arith, place.within, place.short)
+    omega (arith, place.within, c.loop.names.table.short)
 
 pub read_prop-overflow_add-place-in-loop : goal.read_prop-overflow_add-place-in-loop
 unfolding term_text_limit
 read_prop-overflow_add-place-in-loop t c =
     let place = right_place t (goal.at.read_prop-overflow_add-place-in-loop t c).In-Some in
-    omega (arith, place.near, place.within, place.short)
+    omega (arith, place.near, place.within, c.loop.names.table.short)
 
 pub read_prop-read_prop-requires : goal.read_prop-read_prop-requires
 read_prop-read_prop-requires t c =
@@ -94,14 +95,15 @@ read_prop-loop-preserved t c =
     let one_less : c.args.levels - c.loop.counter - 1 ≡ c.args.levels - (c.loop.counter + 1) = omega arith in
     let made = (c.in_ok-left-2.ensures j₀.prop q j₀.read.measured right.measured).answer in
     record {
-      within = rw made.end_is right.within;
+      within = omega (arith, right.within, ap length j₀.read.noted.same_text, made.end_is);
       bound_long = c.read_prop.auto.bound ∙ inv.bound_long;
       code_long = c.join.auto.code ∙ (c.read_prop.auto.code ∙ inv.code_long);
-      keeps = λ ns held₀ bound₀ code₀ at b j₀.
-          let j = inv.keeps ns held₀ bound₀ code₀ at b j₀ in
+      keeps = λ ns held₀ bound₀ code₀ at same b j₀.
+          let j = inv.keeps ns held₀ bound₀ code₀ at same b j₀ in
           rw (← one_less)
-          (joining_on j (omega (arith, c.loop-test.true)) c.in-Some.ensures.reads c.right_least-asked.ensures.is (c.in_ok-right.ensures ns (binds_noted b j.read.noted j.bound_kept))
-          (λ q m. c.in_ok-left-2.ensures j.prop q j.read.measured m));
+          (joining_on j (omega (arith, c.loop-test.true)) (reads_at (goes_on c.args.least) _ _ _ (sym same) c.in-Some.ensures.reads) c.right_least-asked.ensures.is
+          (c.in_ok-right.ensures ns (binds_noted b j.read.noted j.bound_kept))
+          (λ q m. joins_at (sym same) (c.in_ok-left-2.ensures j.prop q j.read.measured m)));
     }
 
 pub read_prop-returns : goal.read_prop-returns
@@ -158,7 +160,7 @@ read_prop-shape_of-code t c = (looped t (goal.at.read_prop-shape_of-code t c).At
 pub read_unit-read_atom-requires : goal.read_unit-read_atom-requires
 read_unit-read_atom-requires t c =
     let pre = c.requires in
-    (begins_less 0 (omega arith) pre, name_place c.in-Some.ensures pre.short)
+    (begins_less 0 (omega arith) pre, name_place c.in-Some.ensures)
 
 pub read_unit-returns-in-Some : goal.read_unit-returns-in-Some
 read_unit-returns-in-Some t c ns b = rw (unit_atom (read_prop c.args.levels) ns _ c.in-Some.ensures.reads) (c.read_atom.ensures ns b)
@@ -172,12 +174,12 @@ unfolding term_text_limit
 read_unit-read_constant-requires t c =
     let pre = c.requires in
     let within = (rw c.in-Constant.is at c.in_ok-sign.ensures).within in
-    (omega (arith, within, constant_size c.in-Constant.sign), omega (arith, pre.near, pre.within, pre.short), pre.short)
+    (omega (arith, within, constant_size c.in-Constant.sign), omega (arith, pre.near, pre.within, c.args.names.now.table.short), c.args.names.now.table.short)
 
 pub read_unit-returns-in-Constant : goal.read_unit-returns-in-Constant
 read_unit-returns-in-Constant t c ns b =
     rw (unit_signed (read_prop c.args.levels) ns _ c.in_default.ensures (rw c.in-Constant.is at c.in_ok-sign.ensures).reads, constant_size c.in-Constant.sign)
-    (c.read_constant.ensures (read_prop c.args.levels) ns _ _ c.requires.table)
+    (c.read_constant.ensures (read_prop c.args.levels) ns _ _ refl)
 
 pub read_unit-open_front-requires : goal.read_unit-open_front-requires
 read_unit-open_front-requires t c =
@@ -185,8 +187,8 @@ read_unit-open_front-requires t c =
 
 -- the sign that was found
 reads : (t : ℕ) → (c : read_unit-In-Opening t) → (ns : List Name) → let s = c.args in
-    unit (read_prop s.levels) ns (drop s.p.at s.text.now)
-    ≡ signed (read_prop s.levels) ns (opening_sign c.in-Opening.sign) (drop (s.p.at + sign_size (opening_sign c.in-Opening.sign)) s.text.now)
+    unit (read_prop s.levels) ns (drop s.p.at s.names.now.text.now)
+    ≡ signed (read_prop s.levels) ns (opening_sign c.in-Opening.sign) (drop (s.p.at + sign_size (opening_sign c.in-Opening.sign)) s.names.now.text.now)
 reads t c ns = unit_signed (read_prop c.args.levels) ns _ c.in_default.ensures (rw c.in-Opening.is at c.in_ok-sign.ensures).reads
 
 pub read_unit-returns-in_err-place-in-Opening : goal.read_unit-returns-in_err-place-in-Opening
@@ -213,7 +215,7 @@ read_unit-close_prop-requires t c =
     let (f, front) = (c.in_ok-place-in-Opening.ensures ns b).answer in
     let begins = front_begins front c.requires c.open_front.auto.bound in
     let (q, reads, given) = (c.in_ok-part-in-Opening.ensures (part_bound f ns) front.binds).answer in
-    closable begins.short (omega (arith, begins.near)) given
+    rw front.noted.same_text at (closable (omega (arith, begins.near)) given)
 
 pub read_unit-returns-in_ok-part-in-Opening : goal.read_unit-returns-in_ok-part-in-Opening
 read_unit-returns-in_ok-part-in-Opening t c ns b =

@@ -1,4 +1,5 @@
 -- A lone listed name is a datatype, and anything else a proposition.
+use mathlib.Core.Path.{sym, ◌∙◌}
 use native.Mathlib.Omega.{arith}
 use Rattle.words.specs.Places.{between}
 use Rattle.prop_reader.proofs.Labels.{other_unlisted, lone_place, lone_unlisted, lone_listed, proposition_label}
@@ -6,7 +7,7 @@ use Rattle.prop_reader.proofs.read_label.Goals as goal
 
 pub returns-in_default : goal.returns-in_default
 returns-in_default c =
-    proposition_label _ (other_unlisted _ c.args.text.now c.args.at c.in_default.ensures) c.read_proposition.result c.read_proposition.ensures
+    proposition_label _ (other_unlisted _ c.args.names.now.text.now c.args.at c.in_default.ensures) c.read_proposition.result c.read_proposition.ensures
 
 pub slice_bounds-is_listed-count : goal.slice_bounds-is_listed-count
 slice_bounds-is_listed-count c = omega (arith, c.in-Some.ensures.from)
@@ -15,14 +16,12 @@ pub slice_bounds-is_listed-start : goal.slice_bounds-is_listed-start
 slice_bounds-is_listed-start c = omega (arith, c.in-Some.ensures.from)
 
 pub read_datatype-requires : goal.read_datatype-requires
-read_datatype-requires c =
-    let pre = c.requires in
-    (pre.table, lone_place c.in-Some.ensures pre.short)
+read_datatype-requires c = lone_place c.in-Some.ensures
 
 pub returns-then-is_listed : goal.returns-then-is_listed
 unfolding between
 returns-then-is_listed c =
-    lone_listed c.in-Some.ensures _ c.is_listed.ensures c.read_datatype.result c.if-is_listed.true c.requires.even c.read_datatype.ensures
+    lone_listed _ c.read_datatype.result c.in-Some.ensures (sym c.is_listed.ensures ∙ c.if-is_listed.true) c.requires.even c.read_datatype.ensures
 
 pub returns : goal.returns
 unfolding between
