@@ -14,7 +14,7 @@ use Rattle.definitions.specs.Sheet.{header_size, pair_size, name_limit, proposit
 use Rattle.definitions.specs.Admission.{header_checks, admitted}
 use Rattle.definitions.specs.Answers.{sheet_term, named_term, sheet_text, is_in_room, version_of, text_answer, names_step, column_of, located, printed, refusal_line, board_output}
 use Rattle.sheet.specs.Header.{header_of}
-use Rattle.sheet.proofs.Ranges.{in_range}
+use Rattle.definitions.proofs.Ranges.{in_range}
 use Rattle.sheet.proofs.Order.{in_stages}
 use Rattle.board.specs.Input.{longest_sheet, input_room, read_part}
 

@@ -14,7 +14,8 @@ use Rattle.definitions.specs.Tree.{ProofTreeConclusion, PropIsTrue, TypeJudgemen
 use Rattle.definitions.specs.Admission.{not_zero, bad_prop_is_true, bad_type_judgement, identifiers, bad_conclusion, bad_column, bad_identifier, bad_step, admitted}
 use Rattle.std.proofs.lemmas.Bool.{or_parts}
 use Rattle.definitions.proofs.Lowest.{all_fail}
-use Rattle.writer_laws.proofs.Checks.{admitted_checks, in_range}
+use Rattle.definitions.proofs.Ranges.{in_range}
+use Rattle.writer_laws.proofs.Checks.{admitted_checks}
 
 -- every step of a tree
 abbrev mutual

@@ -15,6 +15,7 @@ pub mod PrefixCode
 pub mod Verdicts
 pub mod AlphaEquality
 pub mod Refusals
+pub mod Ranges
 pub mod ComparisonKept
 pub mod Renaming
 pub mod Labelling

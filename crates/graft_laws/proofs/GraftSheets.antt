@@ -23,7 +23,8 @@ use Rattle.definitions.proofs.Lowest.{all_fail}
 use Rattle.graft_laws.proofs.Trees.{renumber_step, tidy_step, named_step}
 use Rattle.definitions.specs.Graft.{donor_record, merged_parts, merged_sheet}
 use Rattle.definitions.proofs.Renaming.{export_same}
-use Rattle.writer_laws.proofs.Checks.{Checks, in_range, admitted_checks}
+use Rattle.definitions.proofs.Ranges.{in_range}
+use Rattle.writer_laws.proofs.Checks.{Checks, admitted_checks}
 use Rattle.writer_laws.proofs.Assembling.{steps_assembled}
 use Rattle.writer_laws.proofs.Records.{SameStep, same_premiss_count}
 use Rattle.graft_laws.proofs.MergedSheet.{Grafts, here, no_premisses, is_sorry_lem}

@@ -17,7 +17,8 @@ use Rattle.definitions.specs.Admission.{misplaced, bad_name_pair, bad_propositio
 use Rattle.definitions.proofs.Lowest.{all_fail}
 use Rattle.graft_laws.proofs.Trees.{graft_tree, map_tree, named_step, named_tree, renumber_tree}
 use Rattle.definitions.specs.Graft.{merged_parts, merged_sheet}
-use Rattle.writer_laws.proofs.Checks.{Checks, in_range}
+use Rattle.definitions.proofs.Ranges.{in_range}
+use Rattle.writer_laws.proofs.Checks.{Checks}
 use Rattle.std.proofs.lemmas.Bool.{or_parts}
 use Rattle.writer_laws.proofs.Assembling.{whole_assembled, length_assembled}
 use Rattle.graft_laws.proofs.MergedSheet.{Grafts, here, fit, length_text}

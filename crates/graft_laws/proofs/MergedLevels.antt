@@ -18,7 +18,8 @@ use Rattle.definitions.specs.Encode.{concat}
 use Rattle.definitions.proofs.Lowest.{all_fail}
 use Rattle.graft_laws.specs.Levels.{occurrences, above}
 use Rattle.graft_laws.proofs.Trees.{graft_tree, map_tree, map_premisses, named_step, named_tree}
-use Rattle.writer_laws.proofs.Checks.{Checks, in_range}
+use Rattle.definitions.proofs.Ranges.{in_range}
+use Rattle.writer_laws.proofs.Checks.{Checks}
 use Rattle.graft_laws.proofs.Plugging.{height_at_least, height_at_most}
 use Rattle.graft_laws.proofs.Renumbering.{height_moved}
 use Rattle.graft_laws.proofs.Tidy.{occurrences_same, above_same}

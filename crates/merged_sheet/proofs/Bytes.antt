@@ -27,7 +27,7 @@ use Rattle.renumbering.proofs.Donor.{donor_steps, step_mapped}
 use Rattle.equal_conclusions.specs.Equality.{code_over}
 use Rattle.sheet.specs.declared.header.Sheet.{Sheet}
 use Rattle.sheet.specs.Header.{header_of, layout_of, InRange}
-use Rattle.sheet.proofs.Ranges.{in_range}
+use Rattle.definitions.proofs.Ranges.{in_range}
 use Rattle.sheet.proofs.Slices.{lengths}
 use Rattle.sheet.specs.Admitted.{Admitted}
 use Rattle.sheet.proofs.Admitted.{AcceptedSheet}
@@ -187,4 +187,5 @@ module _ {s t : List ℕ} {h : Sheet} (accepted : AcceptedSheet s h) {x : NewPar
     end_is = ap (λ y. (layout_of y).end) header_is ∙ (layout_end (merged_sheet s t k) ∙ sym (merged_whole g))
 
     pub range : header_out_of_range (merged_sheet s t k) ≡ false → InRange x.header
+    unfolding header_of
     range inside = rw header_is (in_range (merged_sheet s t k) inside)

@@ -1,6 +1,5 @@
 -- The laws that the proofs of the checks share, and what an accepted sheet gives to the layers above.
 pub mod Searched
-pub mod Ranges
 pub mod Slices
 pub mod Placed
 pub mod Stages

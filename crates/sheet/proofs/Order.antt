@@ -13,7 +13,7 @@ use Rattle.sheet.specs.Checks.{answered, checked_of, name_checks, proposition_ch
 use Rattle.sheet.specs.Sizes.{steps_finding_trees, unless_refused, sized_steps, Sized}
 use Rattle.steps.proofs.Tables.{size_table_none}
 use Rattle.definitions.proofs.Outcomes.{bind_assoc, each_accepted, test_failed}
-use Rattle.sheet.proofs.Ranges.{in_range}
+use Rattle.definitions.proofs.Ranges.{in_range}
 use Rattle.sheet.proofs.Stages.{stops, passes, answer_refused, answer_accepted, stage_accepted, stage_refuses, stage_refused}
 use Rattle.definitions.specs.declared.Refusal.{Refusal}
 
@@ -44,7 +44,7 @@ module _ (s : List ℕ) where
 
   -- where refusals 1 to 3 do not come, the header is right and the bytes are as many as it says
   pub header_given : {h : Sheet} {a : Unit {0}} → h ≡ header_of s → header_checks s ≡ accepted a → HasHeader s h
-  unfolding header_checks
+  unfolding header_checks header_of
   header_given same e =
       let (_, _, after_one) = each_accepted _ _ e in
       let (_, two, three) = each_accepted _ _ after_one in

@@ -1,7 +1,8 @@
 -- The header of a sheet's bytes, and where the parts lie, as the program holds them.
-use Rattle.std.specs.Prelude.{ℕ, ◌+◌, ◌*◌, ◌≤◌, ◌<◌, ◌≡◌, List, length}
+use Rattle.std.specs.Prelude.{ℕ, ◌+◌, ◌*◌, ◌≡◌, List, length}
 use Rattle.definitions.specs.Sheet as sheet
-use Rattle.definitions.specs.Sheet.{header_size, pair_size, step_size, text_limit, name_limit, code_limit, proposition_limit, step_limit}
+use Rattle.definitions.specs.Sheet.{header_size, pair_size, step_size}
+use Rattle.definitions.proofs.Ranges as ranges
 use Rattle.vocabulary.specs.declared.Vocabulary.{Vocabulary}
 use Rattle.sheet.specs.declared.header.Sheet.{Sheet}
 use Rattle.sheet.specs.declared.header.Layout.{Layout}
@@ -45,15 +46,8 @@ vocabulary_of h =
     }
 
 -- each header number lies in its range
-pub record InRange (h : Sheet) : Type 0 where
-  pub text : h.text_length ≤ text_limit
-  pub names : h.names ≤ name_limit
-  pub code : h.code_length ≤ code_limit
-  pub some_proposition : 1 ≤ h.propositions
-  pub propositions : h.propositions ≤ proposition_limit
-  pub some_step : 1 ≤ h.steps
-  pub steps : h.steps ≤ step_limit
-  pub goal : h.goal < h.propositions
+abbrev pub InRange : Sheet → Type 0
+InRange h = ranges.InRange h.text_length h.names h.code_length h.propositions h.steps h.goal
 
 -- these bytes have this header, its numbers lie in their ranges, and the bytes are as many as it says
 pub record HasHeader (s : List ℕ) (h : Sheet) : Type 0 where

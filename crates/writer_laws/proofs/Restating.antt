@@ -35,7 +35,8 @@ use Rattle.definitions.proofs.PrefixCode.{split_number}
 use Rattle.definitions.proofs.Refusals.{OfStep, AllSteps, export_meets, refused_kind, after, changed, tested}
 use Rattle.writer_laws.specs.Fitting.{Fitting}
 use Rattle.writer_laws.specs.Restates.{KeepsParts, SameAnswers, Restates}
-use Rattle.writer_laws.proofs.Checks.{Checks, checks_admitted, admitted_checks, InRange, in_range, range_in}
+use Rattle.writer_laws.proofs.Checks.{Checks, checks_admitted, admitted_checks}
+use Rattle.definitions.proofs.Ranges.{HeaderInRange, in_range, range_in}
 use Rattle.writer_laws.proofs.Assembling.{text_assembled, names_assembled, code_assembled, propositions_assembled, steps_assembled, goal_assembled, whole_assembled, name_pairs_assembled, proposition_pairs_assembled, step_records_assembled, text_bytes_assembled, code_bytes_assembled, length_assembled}
 use Rattle.writer_laws.proofs.Records.{SameStep, same_rule, same_premiss_count, same_number, same_conclusion, same_bad_step, first_row, second_row, first_trees, first_tree}
 use Rattle.writer_laws.proofs.Places.{tree_of_first}
@@ -157,7 +158,7 @@ module _ (s : List ℕ) (g : Given) (root : ProofTree ℕ) (is_admitted : admitt
   new_step_good = new_step_bad s g ∙ good
 
   -- the old sheet's steps: at least one, and fewer than the limit
-  range : InRange s
+  range : HeaderInRange s
   range = in_range s old.range
 
   steps_left : sheet.steps s < step_limit
@@ -239,7 +240,7 @@ module _ (s : List ℕ) (g : Given) (root : ProofTree ℕ) (is_admitted : admitt
   unfolding restated_sheet
   new_header = omega (arith, whole_assembled (with_step (parts_of s) (new_record g)))
 
-  new_range : InRange (restated_sheet s g)
+  new_range : HeaderInRange (restated_sheet s g)
   new_range =
       record {
         text = rw new_text_length range.text;

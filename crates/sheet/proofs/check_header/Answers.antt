@@ -9,7 +9,7 @@ use Rattle.definitions.specs.Admission.{header_checks}
 use Rattle.sheet.specs.declared.header.Layout.{Layout}
 use Rattle.sheet.specs.Header.{header_of, layout_of}
 use Rattle.sheet.specs.Checks.{short_check}
-use Rattle.sheet.proofs.Ranges.{in_range}
+use Rattle.definitions.proofs.Ranges.{in_range}
 use Rattle.sheet.proofs.Stages.{refused_if, not_refused_if, stops, passes, answer_refused, answer_accepted, stage_accepted, stage_refused}
 use Rattle.sheet.proofs.check_header.Goals as goal
 use Rattle.sheet.proofs.check_header.Goals.{After-layout, After-out_of_range, In_ok-h}
@@ -42,6 +42,7 @@ returns-then-out_of_range c =
     (stops _ (refused_if _ _ (range_test at.After-out_of_range ∙ c.if-out_of_range.true) c.at.ensures)))
 
 pub layout-requires : goal.layout-requires
+unfolding header_of
 layout-requires c =
     let at = goal.at.layout-requires c in
     rw (is_header at.In_ok-h) (in_range _ (range_test at.After-out_of_range ∙ c.if-out_of_range.false))
