@@ -57,11 +57,7 @@ pub fn any_name<'m>(memory: &Memory<'m>, i: usize) -> &'m [u8]
         return cut(memory.bytes, 0, 0);
     }
     let pairs = memory.pairs();
-    cut(
-        memory.text(),
-        pair_offset(pairs, i),
-        pair_length(pairs, i),
-    )
+    cut(memory.text(), pair_offset(pairs, i), pair_length(pairs, i))
 }
 
 // The names of a memory, with slots beside them.

@@ -6,11 +6,11 @@ ghost use Rattle.sheet.specs.Header.{header_of, vocabulary_of};
 ghost use Rattle.sheet.specs.Admitted.{Accepted, Admits};
 
 use crate::header::Sheet;
-use crate::parts::{HeadedSheet, vocabulary};
+use crate::parts::HeadedSheet;
 use crate::{answer, check};
 use definitions::Refusal;
 use std::marker::Model;
-use vocabulary::{Memory, Vocabulary};
+use vocabulary::Memory;
 
 // The bytes with their header. What hands out a part also tells what the refusals have shown of the bytes.
 #[derive(Drop)]
@@ -67,14 +67,6 @@ impl<'a> AdmittedSheet<'a> {
         ensures accepted { Accepted self.now }
     {
         self.sheet.header
-    }
-
-    // Where its names and its code lie.
-    pub fn vocabulary(&self) -> Vocabulary
-        ensures is { result ≡ vocabulary_of (header_of self.now) }
-        ensures accepted { Accepted self.now }
-    {
-        vocabulary(self.sheet.header)
     }
 
     // Its names and its code.

@@ -109,14 +109,14 @@ fn label_list(s: &[u8], which: TermList, out: &mut [u16]) -> Result<usize, Refus
 {
     let mut terms = [0u16; TERM_NUMBERS];
     let (sheet, n) = sheet_term(s, &mut terms)?;
-    let v = sheet.vocabulary();
+    let memory = sheet.memory();
     let mut length = Counter { count: 0 };
-    put_term_list(&mut length, which, s, v, &terms, n);
+    put_term_list(&mut length, which, &memory, &terms, n);
     if out.len() < length.count {
         return Err(Reason::Room.at(0));
     }
     let mut writer = Writer { out, to: 0 };
-    put_term_list(&mut writer, which, s, v, &terms, n);
+    put_term_list(&mut writer, which, &memory, &terms, n);
     Ok(length.count)
 }
 

@@ -1,5 +1,5 @@
 -- The labels of a term that is held can be listed; the list is counted and then written. The refusal of a term is the answer.
-use mathlib.Core.Path.{◌≡◌, refl}
+use mathlib.Core.Path.{◌≡◌, refl, ◌∙◌}
 use native.Mathlib.Omega.{arith}
 use lib.ListN.{length}
 use Rattle.std.proofs.Common.{rules}
@@ -9,32 +9,38 @@ use Rattle.text.specs.Declaring.{sheet_vocabulary}
 use Rattle.text.proofs.Labels as labels
 use Rattle.skriduhol.proofs.Lists.{no_list, too_long, fills}
 use Rattle.skriduhol.proofs.label_list.Goals as goal
-use Rattle.skriduhol.proofs.label_list.Goals.{After-vocabulary-v}
+use Rattle.skriduhol.proofs.label_list.Goals.{After-memory-memory}
 
-its_vocabulary : (c : After-vocabulary-v) → c.vocabulary-v.result ≡ sheet_vocabulary c.args.s.now
-its_vocabulary c = rw c.in_ok-sheet.ensures.same at c.vocabulary-v.ensures.is
+-- the memory that is listed is the sheet's
+its_bytes : (c : After-memory-memory) → c.memory-memory.result.bytes.now ≡ c.args.s.now
+its_bytes c = c.memory-memory.ensures.bytes ∙ c.in_ok-sheet.ensures.same
 
-listable : (c : After-vocabulary-v) → Listable c.args.s.now c.vocabulary-v.result c.sheet_term.new.terms c.in_ok-sheet.n
-listable c = let given = c.in_ok-sheet.ensures in labels.listable given.sheet (its_vocabulary c) given.term
+its_vocabulary : (c : After-memory-memory) → c.memory-memory.result.vocabulary ≡ sheet_vocabulary c.args.s.now
+its_vocabulary c = rw c.in_ok-sheet.ensures.same at c.memory-memory.ensures.vocabulary
+
+listable : (c : After-memory-memory) → Listable c.memory-memory.result.bytes.now c.memory-memory.result.vocabulary c.sheet_term.new.terms c.in_ok-sheet.n
+listable c = let given = c.in_ok-sheet.ensures in rw (its_bytes c) (labels.listable given.sheet (its_vocabulary c) given.term)
 
 pub returns-in_err-sheet : goal.returns-in_err-sheet
 returns-in_err-sheet c = no_list _ _ c.in_err-sheet.ensures (search rules) _
 
 pub put_term_list-requires : goal.put_term_list-requires
-put_term_list-requires c = listable (goal.at.put_term_list-requires c).After-vocabulary-v
+put_term_list-requires c = listable (goal.at.put_term_list-requires c).After-memory-memory
 
 pub returns-then-out-length : goal.returns-then-out-length
 returns-then-out-length c =
     let given = c.in_ok-sheet.ensures in
+    let here = (goal.at.returns-then-out-length c).After-memory-memory in
     rw c.at.ensures
-    (too_long given.sheet (its_vocabulary (goal.at.returns-then-out-length c).After-vocabulary-v) given.term _
-    (counted_past refl c.put_term_list.ensures (omega arith)))
+    (too_long given.sheet (its_vocabulary here) given.term _
+    (counted_past refl (rw (its_bytes here) at c.put_term_list.ensures) (omega arith)))
 
 pub put_term_list-requires-2 : goal.put_term_list-requires-2
-put_term_list-requires-2 c = listable (goal.at.put_term_list-requires-2 c).After-vocabulary-v
+put_term_list-requires-2 c = listable (goal.at.put_term_list-requires-2 c).After-memory-memory
 
 pub returns : goal.returns
 returns c =
     let given = c.in_ok-sheet.ensures in
-    fills given.sheet (its_vocabulary (goal.at.returns c).After-vocabulary-v) given.term _
-    (counted_whole refl c.put_term_list.ensures {room = length c.args.out.now} (search rules) (omega arith)) (omega arith) {next = c.put_term_list-2.new.sink.to} (search rules)
+    let here = (goal.at.returns c).After-memory-memory in
+    fills given.sheet (its_vocabulary here) given.term _
+    (counted_whole refl (rw (its_bytes here) at c.put_term_list.ensures) {room = length c.args.out.now} (search rules) (omega arith)) (omega arith) {next = c.put_term_list-2.new.sink.to} (search rules)
