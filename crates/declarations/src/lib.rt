@@ -122,20 +122,21 @@ impl<'a, const N: usize> UseSink for Declarations<'a, N> {
     // Adds a use, unless a declaration has its name bytes and count. A use that was noted under the same number is known by its flag,
     // so the search runs once for each number and count. A new declaration is put before the chain of its slot.
     #[tactic(auto, unfolding(definitions::specs::NameIndex::slot_count), using(crate::proofs::Noting::slot_below))]
-    fn put_use(&mut self, name: usize, count: usize) {
-        let flag = NAME_FLAGS * name + count;
+    fn put_use(&mut self, name: u16, count: usize) {
+        let number = usize::from(name);
+        let flag = NAME_FLAGS * number + count;
         if self.table.seen[flag] {
             return;
         }
-        let slot = start_slot(self.memory.name(name));
-        let known = self.is_declared(slot, name, count);
+        let slot = start_slot(self.memory.name(number));
+        let known = self.is_declared(slot, number, count);
         self.table.seen[flag] = true;
         if known {
             return;
         }
         let len = self.table.len;
         self.table.rows[len] = Declaration {
-            name: name as u16,
+            name,
             count: count as u16,
         };
         self.table.older[len] = self.table.newest[slot];

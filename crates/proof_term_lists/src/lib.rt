@@ -46,7 +46,7 @@ fn put_added<S: UseSink>(sink: &mut S, list: TermList, memory: &Memory, added: O
 {
     match added {
         None => {}
-        Some(Label::Datatype(name)) => sink.put_use(usize::from(name), 0),
+        Some(Label::Datatype(name)) => sink.put_use(name, 0),
         Some(Label::Proposition(at)) => put_entries(sink, list, memory, usize::from(at)),
     }
 }

@@ -51,9 +51,9 @@ pub trait UseSink {
     ghost knows: { Self → ℕ → Type 0 };
 
     // One use: the number of a name, and an atom's parameter count or 0 for a datatype.
-    fn put_use(&mut self, name: usize, count: usize)
+    fn put_use(&mut self, name: u16, count: usize)
         requires known { knows self.old name }
-        requires bounds { (name < 65536) × (count ≤ parameter_limit) }
+        requires few { count ≤ parameter_limit }
         ensures { puts self.old (use_of name count ∷ []) self.new };
 
     // What is put in turn is put together, and the names that a sink knows stay known.
@@ -77,8 +77,8 @@ impl<'a, S: Sink<u16>> UseSink for Numbers<'a, S> {
     ghost laws = { numbers_laws S.laws };
 
     #[tactic(auto, unfolding(definitions::specs::Code::parameter_limit, crate::specs::Entries::entry_numbers))]
-    fn put_use(&mut self, name: usize, count: usize) {
-        self.sink.put(name as u16);
+    fn put_use(&mut self, name: u16, count: usize) {
+        self.sink.put(name);
         match self.list {
             TermList::Atoms => self.sink.put(count as u16),
             TermList::Datatypes(_) => {}
@@ -100,7 +100,7 @@ pub fn put_entries<S: UseSink>(sink: &mut S, list: TermList, memory: &Memory, at
     let mut i = at;
     while i < end {
         if let Some(entry) = own_entry(list, shape_at(code, i)) {
-            sink.put_use(entry.name, entry.count);
+            sink.put_use(entry.name as u16, entry.count);
         }
         i = head_end(code, i, names);
     }

@@ -27,10 +27,13 @@ bounds g c =
     let is = sym c.own_entry.ensures ∙ c.in-Some.is in
     rw is at (own_bounds c.args.list (λ k. omega (arith, c.type_inv.code k)) there (c.shape_at.ensures _ there))
 
+pub overflow_cast-entry : goal.overflow_cast-entry
+overflow_cast-entry g c = omega (arith, (bounds g (goal.at.overflow_cast-entry g c).In-Some).small)
+
 pub put_use-requires : goal.put_use-requires
 put_use-requires g c =
     let b = bounds g (goal.at.put_use-requires g c).In-Some in
-    record { known = c.loop-i.invariant.2 _ b.below; bounds = (b.small, b.few) }
+    record { known = c.loop-i.invariant.2 _ b.below; few = b.few }
 
 pub loop-i-smaller : goal.loop-i-smaller
 loop-i-smaller g c =
