@@ -34,6 +34,10 @@ module _ {names : ℕ} {code : List ℕ} {at : ℕ} (s : Standing (form_coding o
   unfolding encode u16
   atom_end counted = omega arith
 
+-- the names and the counts of two lie in the code
+pub atoms_inside : {names : ℕ} {code : List ℕ} {i j : ℕ} → Two (form_coding of_applied) code i j names → (i + 4 ≤ length code) × (j + 4 ≤ length code)
+atoms_inside two = (omega (arith, atom_at two.left), omega (arith, atom_at two.right))
+
 module _ {code : List ℕ} {i j : ℕ} (counted : get_or code (i + 3) 0 ≡ get_or code (j + 3) 0) where
   abbrev pub two_lists : {names : ℕ} → Two (form_coding of_applied) code i j names → Two (several_coding (get_or code (i + 3) 0)) code (i + 4) (j + 4) names
   two_lists two = record { left = parameters_of two.left refl; right = parameters_of two.right counted }

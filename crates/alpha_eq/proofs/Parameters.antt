@@ -31,6 +31,10 @@ module _ {names : ℕ} {code : List ℕ} {at : ℕ} (s : Standing parameter_codi
   pub id_at : get_or code at 0 ≡ 1 → at + 5 ≤ length code
   id_at one = (parameter_at.instantiated one).1
 
+-- the names of two lie in the code
+pub parameters_inside : {names : ℕ} {code : List ℕ} {i j : ℕ} → Two parameter_coding code i j names → (i + 3 ≤ length code) × (j + 3 ≤ length code)
+parameters_inside two = (omega (arith, parameter_at two.left), omega (arith, parameter_at two.right))
+
 -- the names of two lie in the text
 pub names_within : {pairs text : List ℕ} {memory : List Pair} {depth : ℕ} {code : List ℕ} {i j x y : ℕ} → Comparable parameter_coding code i j pairs text memory depth
     → x ≡ number_at code (i + 1) → y ≡ number_at code (j + 1) → NameWithin pairs text x × NameWithin pairs text y

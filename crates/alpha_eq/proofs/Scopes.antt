@@ -39,6 +39,10 @@ module _ {names : ℕ} {code : List ℕ} {at : ℕ} (s : Standing (form_coding o
   unfolding encode u16
   scope_end = omega arith
 
+-- the names of two lie in the code
+pub scopes_inside : {names : ℕ} {code : List ℕ} {i j : ℕ} → Two (form_coding of_scope) code i j names → (i + 5 ≤ length code) × (j + 5 ≤ length code)
+scopes_inside two = (omega (arith, scope_at two.left), omega (arith, scope_at two.right))
+
 abbrev two_bodies : {names : ℕ} {code : List ℕ} {i j : ℕ} → Two (form_coding of_scope) code i j names → Two proposition_coding code (i + 5) (j + 5) names
 two_bodies two = record { left = body_of two.left; right = body_of two.right }
 

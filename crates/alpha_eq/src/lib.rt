@@ -3,7 +3,7 @@
 // atoms of one name with different parameter counts are a no, and two unbound parameters refusal 19.
 #![tactic(auto)]
 
-ghost use Rattle.std.specs.Prelude.{◌≡◌, get_or, length};
+ghost use Rattle.std.specs.Prelude.{◌≡◌, ◌≤◌, ◌<◌, ◌+◌, get_or, length};
 ghost use Rattle.definitions.specs.Sheet.{marked};
 ghost use Rattle.number.specs.Pairs.{NameWithin};
 ghost use Rattle.prefix_code.specs.Scan.{proposition_coding, parameter_coding};
@@ -54,7 +54,8 @@ fn bound_alike(bindings: &[Pair], names: Marked, x: usize, y: usize) -> Result<b
 
 // The parameters at i and j.
 fn alpha_eq_parameter(named: &NamedCode, i: usize, j: usize, bindings: &[Pair]) -> Compared
-    requires { ComparableIn parameter_coding named.now i j bindings.now (length bindings.now) }
+    requires comparable { ComparableIn parameter_coding named.now i j bindings.now (length bindings.now) }
+    requires inside { (i + 3 ≤ length named.now.code.now) × (j + 3 ≤ length named.now.code.now) }
     ensures { AnswersIn parameter_coding named.now i j alpha_eq_parameter_in bindings.now (length bindings.now) result }
 {
     let byte = named.code[i];
@@ -104,9 +105,14 @@ fn alpha_eq_parameters(
     Ok(Some((left, right)))
 }
 
+// Below, the numbers behind two heads of one byte are read by their offsets. A match on what prefix_code::shape_at hands out of both has
+// eighteen names for eight reads, and is longer than a function may be; cut into these three functions it hands on eight and nine
+// numbers in place of i and j, of which the contracts speak. It also reads what stands behind two bytes that differ already.
+
 // The atoms at i and j: names, then parameter counts, then parameters.
 fn alpha_eq_atom(named: &NamedCode, i: usize, j: usize, bindings: &[Pair]) -> Compared
-    requires { ComparableIn (form_coding of_applied) named.now i j bindings.now (length bindings.now) }
+    requires comparable { ComparableIn (form_coding of_applied) named.now i j bindings.now (length bindings.now) }
+    requires inside { (i + 4 ≤ length named.now.code.now) × (j + 4 ≤ length named.now.code.now) }
     ensures { AnswersIn (form_coding of_applied) named.now i j alpha_eq_atom_in bindings.now (length bindings.now) result }
 {
     let a = number_at(named.code, i + 1);
@@ -157,6 +163,8 @@ fn alpha_eq_scope(
 ) -> Compared
     requires with_room { WithRoomIn of_scope named.now i j bindings.old depth }
     requires i_value { get_or named.now.code.now i 0 ≡ get_or named.now.code.now j 0 }
+    requires inside { (i + 5 ≤ length named.now.code.now) × (j + 5 ≤ length named.now.code.now) }
+    requires room { depth < length bindings.old }
     ensures answers { AnswersIn (form_coding of_scope) named.now i j alpha_eq_scope_in bindings.old depth result }
     ensures kept { Kept depth bindings.old bindings.new }
 {

@@ -1,28 +1,23 @@
 -- The calls end by the bytes of the code from i on: a form's function calls on parts of it, which start later. Where two
 -- calls follow each other, the second finds the bindings as the first found them.
-use Prim.Native.Nat.{ℕ, ◌+◌, ◌≤◌}
+use Prim.Native.Nat.{ℕ}
 use mathlib.Core.Path.{◌≡◌, ◌∙◌}
 use native.Mathlib.Omega.{arith}
-use lib.ListN.{length, length-set}
 use Rattle.std.proofs.Common.{rules}
 use Rattle.identifier.proofs.Within.{last_within}
 use Rattle.alpha_eq.specs.Comparing.{of_sides, of_applied, of_scope}
 use Rattle.prefix_code.proofs.Fronts.{front_byte, leaf_front, binary_front, quantified_front}
 use Rattle.alpha_eq.proofs.Outcomes.{no_stops, refusal_stops}
-use Rattle.alpha_eq.proofs.Atoms.{atom_cut}
+use Rattle.alpha_eq.proofs.Atoms.{atom_cut, atoms_inside}
 use Rattle.alpha_eq.proofs.Bindings.{bound_cut, kept_all, kept_fewer, kept_trans, kept_pushed}
 use Rattle.alpha_eq.proofs.Forms.{SameForm, inside, known, other_front, same_leaf, same_connective, same_atom, same_quantifier}
 use Rattle.alpha_eq.proofs.Forms.{forms_asked, by_form, sides_under, atom_under, scope_under}
 use Rattle.alpha_eq.proofs.Sides.{sides_inside, lefts_asked, lefts_stop, rights_decide, rights_asked, rights_after}
-use Rattle.alpha_eq.proofs.Scopes.{scope_at, other_datatype, room_here, bodies_decide, bodies_asked}
+use Rattle.alpha_eq.proofs.Scopes.{scope_at, scopes_inside, other_datatype, room_here, bodies_decide, bodies_asked}
 use Rattle.alpha_eq.proofs.+alpha_eq_scope_alpha_eq_sides_alpha_eq_under.Goals as goal
-use Rattle.alpha_eq.proofs.+alpha_eq_scope_alpha_eq_sides_alpha_eq_under.Goals.{alpha_eq_scope-After-same_bytes, alpha_eq_under-In-Binary, alpha_eq_under-In-Atom, alpha_eq_under-In-Quantified}
+use Rattle.alpha_eq.proofs.+alpha_eq_scope_alpha_eq_sides_alpha_eq_under.Goals.{alpha_eq_under-In-Binary, alpha_eq_under-In-Atom, alpha_eq_under-In-Quantified}
 
--- `alpha_eq_scope` by its places: room for the binding of the two objects
-room : (t : ℕ) → (c : alpha_eq_scope-After-same_bytes t) → let s = c.args in
-    s.depth + 1 ≤ length s.bindings.now
-room t c = room_here c.requires.with_room
-
+-- `alpha_eq_scope` by its places
 pub alpha_eq_scope-same_bytes-requires : goal.alpha_eq_scope-same_bytes-requires
 alpha_eq_scope-same_bytes-requires t c =
     let s = c.requires.with_room.forms in (
@@ -40,64 +35,20 @@ alpha_eq_scope-returns-then-not-same_bytes t c =
 
 pub alpha_eq_scope-alpha_eq_under-requires : goal.alpha_eq_scope-alpha_eq_under-requires
 alpha_eq_scope-alpha_eq_under-requires t c = (
-  omega (arith, c.decreases, scope_at c.requires.with_room.forms.two.left),
+  omega (arith, c.decreases, c.requires.inside),
   bodies_asked c.requires.with_room c.number_at.ensures.0 c.number_at-2.ensures.0,
 )
 
 pub alpha_eq_scope-returns : goal.alpha_eq_scope-returns
 alpha_eq_scope-returns t c =
-    let here = (goal.at.alpha_eq_scope-returns t c).After-same_bytes in
+    let room = room_here c.requires.with_room in
     let bodies = c.alpha_eq_under.ensures in record {
       answers = bodies_decide _ _ _ _ _ _ _ c.requires.i_value c.number_at-t.ensures.0
-          c.number_at-u.ensures.0 c.same_bytes.ensures (room t here)
+          c.number_at-u.ensures.0 c.same_bytes.ensures room
           c.if-not-same_bytes.false c.number_at.ensures.0
           c.number_at-2.ensures.0 bodies.answers;
-      kept = kept_trans (kept_pushed _ _ _ _ (room t here)) (kept_fewer bodies.kept);
+      kept = kept_trans (kept_pushed _ _ _ _ room) (kept_fewer bodies.kept);
     }
-
-pub alpha_eq_scope-overflow_add-i : goal.alpha_eq_scope-overflow_add-i
-alpha_eq_scope-overflow_add-i t c = omega (arith, scope_at c.requires.with_room.forms.two.left)
-
-pub alpha_eq_scope-number_at-t-requires : goal.alpha_eq_scope-number_at-t-requires
-alpha_eq_scope-number_at-t-requires t c = omega (arith, scope_at c.requires.with_room.forms.two.left)
-
-pub alpha_eq_scope-overflow_add-j : goal.alpha_eq_scope-overflow_add-j
-alpha_eq_scope-overflow_add-j t c = omega (arith, scope_at c.requires.with_room.forms.two.right)
-
-pub alpha_eq_scope-number_at-u-requires : goal.alpha_eq_scope-number_at-u-requires
-alpha_eq_scope-number_at-u-requires t c = omega (arith, scope_at c.requires.with_room.forms.two.right)
-
-pub alpha_eq_scope-overflow_add-i-2 : goal.alpha_eq_scope-overflow_add-i-2
-alpha_eq_scope-overflow_add-i-2 t c = omega (arith, scope_at c.requires.with_room.forms.two.left)
-
-pub alpha_eq_scope-number_at-requires : goal.alpha_eq_scope-number_at-requires
-alpha_eq_scope-number_at-requires t c = omega (arith, scope_at c.requires.with_room.forms.two.left)
-
-pub alpha_eq_scope-offset_bounds-bindings-depth : goal.alpha_eq_scope-offset_bounds-bindings-depth
-alpha_eq_scope-offset_bounds-bindings-depth t c =
-    let here = goal.at.alpha_eq_scope-offset_bounds-bindings-depth t c in
-    omega (arith, room t here.After-same_bytes)
-
-pub alpha_eq_scope-bounds-bindings-depth : goal.alpha_eq_scope-bounds-bindings-depth
-alpha_eq_scope-bounds-bindings-depth t c = omega (arith, room t (goal.at.alpha_eq_scope-bounds-bindings-depth t c).After-same_bytes)
-
-pub alpha_eq_scope-overflow_add-j-2 : goal.alpha_eq_scope-overflow_add-j-2
-alpha_eq_scope-overflow_add-j-2 t c = omega (arith, scope_at c.requires.with_room.forms.two.right)
-
-pub alpha_eq_scope-number_at-requires-2 : goal.alpha_eq_scope-number_at-requires-2
-alpha_eq_scope-number_at-requires-2 t c = omega (arith, scope_at c.requires.with_room.forms.two.right)
-
-pub alpha_eq_scope-overflow_add-i-3 : goal.alpha_eq_scope-overflow_add-i-3
-alpha_eq_scope-overflow_add-i-3 t c = omega (arith, scope_at c.requires.with_room.forms.two.left)
-
-pub alpha_eq_scope-overflow_add-j-3 : goal.alpha_eq_scope-overflow_add-j-3
-alpha_eq_scope-overflow_add-j-3 t c = omega (arith, scope_at c.requires.with_room.forms.two.right)
-
-pub alpha_eq_scope-overflow_add-depth : goal.alpha_eq_scope-overflow_add-depth
-alpha_eq_scope-overflow_add-depth t c = omega (arith, room t (goal.at.alpha_eq_scope-overflow_add-depth t c).After-same_bytes)
-
-pub alpha_eq_scope-shape_of-bindings : goal.alpha_eq_scope-shape_of-bindings
-alpha_eq_scope-shape_of-bindings t c = c.alpha_eq_under.auto.bindings ∙ simp length-set
 
 -- `alpha_eq_sides` by its places
 pub alpha_eq_sides-returns-in_err-left-clause-answers : goal.alpha_eq_sides-returns-in_err-left-clause-answers
@@ -167,8 +118,10 @@ alpha_eq_under-returns-in-Binary t c =
 
 pub alpha_eq_under-alpha_eq_atom-requires : goal.alpha_eq_under-alpha_eq_atom-requires
 alpha_eq_under-alpha_eq_atom-requires t c =
-    let asked = (forms_asked of_applied (atom t (goal.at.alpha_eq_under-alpha_eq_atom-requires t c).In-Atom) c.requires).forms in
-    record { names = asked.names; two = asked.two; named = asked.named; bound = bound_cut _ _ asked.bound.present asked.bound }
+    let asked = (forms_asked of_applied (atom t (goal.at.alpha_eq_under-alpha_eq_atom-requires t c).In-Atom) c.requires).forms in record {
+      comparable = record { names = asked.names; two = asked.two; named = asked.named; bound = bound_cut _ _ asked.bound.present asked.bound };
+      inside = atoms_inside asked.two;
+    }
 
 pub alpha_eq_under-returns-in-Atom : goal.alpha_eq_under-returns-in-Atom
 alpha_eq_under-returns-in-Atom t c =
@@ -179,10 +132,9 @@ alpha_eq_under-returns-in-Atom t c =
     }
 
 pub alpha_eq_under-alpha_eq_scope-requires : goal.alpha_eq_under-alpha_eq_scope-requires
-alpha_eq_under-alpha_eq_scope-requires t c = (
-  omega arith,
-  (forms_asked of_scope (scope t (goal.at.alpha_eq_under-alpha_eq_scope-requires t c).In-Quantified) c.requires, c.if-front-named.false),
-)
+alpha_eq_under-alpha_eq_scope-requires t c =
+    let asked = forms_asked of_scope (scope t (goal.at.alpha_eq_under-alpha_eq_scope-requires t c).In-Quantified) c.requires in
+    (omega arith, (asked, (c.if-front-named.false, (scopes_inside asked.forms.two, omega (arith, room_here asked)))))
 
 pub alpha_eq_under-returns-in-Quantified : goal.alpha_eq_under-returns-in-Quantified
 alpha_eq_under-returns-in-Quantified t c =

@@ -6,7 +6,7 @@ use Rattle.alpha_eq.proofs.alpha_eq_atom.Goals as goal
 
 pub same_bytes-same_atom-requires : goal.same_bytes-same_atom-requires
 same_bytes-same_atom-requires c =
-    let s = c.requires in (
+    let s = c.requires.comparable in (
       last_within (s.named c.number_at-a.result (omega (arith, atom_at s.two.left))),
       last_within (s.named c.number_at-b.result (omega (arith, atom_at s.two.right))),
     )
@@ -23,7 +23,7 @@ returns-then-count-other_count c =
 
 pub alpha_eq_parameters-requires : goal.alpha_eq_parameters-requires
 alpha_eq_parameters-requires c =
-    let s = c.requires in
+    let s = c.requires.comparable in
     rw c.from.ensures (record { names = s.names; named = s.named; two = two_lists c.if-count-other_count.false s.two; bound = s.bound })
 
 pub returns : goal.returns
@@ -31,34 +31,3 @@ returns c =
     by_parameters _ _ _ _ _ _ _ c.number_at-a.ensures.0 c.number_at-b.ensures.0
     c.same_bytes-same_atom.ensures c.if-not-same_atom.false c.if-count-other_count.false
     (rw c.from.ensures at c.alpha_eq_parameters.ensures)
-
--- The places are answered one by one: a lemma with the bounds of both atoms in `using` leaves all ten open.
-pub overflow_add-i : goal.overflow_add-i
-overflow_add-i c = omega (arith, atom_at c.requires.two.left)
-
-pub number_at-a-requires : goal.number_at-a-requires
-number_at-a-requires c = omega (arith, atom_at c.requires.two.left)
-
-pub overflow_add-j : goal.overflow_add-j
-overflow_add-j c = omega (arith, atom_at c.requires.two.right)
-
-pub number_at-b-requires : goal.number_at-b-requires
-number_at-b-requires c = omega (arith, atom_at c.requires.two.right)
-
-pub overflow_add-count : goal.overflow_add-count
-overflow_add-count c = omega (arith, atom_at c.requires.two.left)
-
-pub bounds-named-i : goal.bounds-named-i
-bounds-named-i c = omega (arith, atom_at c.requires.two.left)
-
-pub overflow_add-other_count : goal.overflow_add-other_count
-overflow_add-other_count c = omega (arith, atom_at c.requires.two.right)
-
-pub bounds-named-j : goal.bounds-named-j
-bounds-named-j c = omega (arith, atom_at c.requires.two.right)
-
-pub overflow_add-i-2 : goal.overflow_add-i-2
-overflow_add-i-2 c = omega (arith, atom_at c.requires.two.left)
-
-pub overflow_add-j-2 : goal.overflow_add-j-2
-overflow_add-j-2 c = omega (arith, atom_at c.requires.two.right)

@@ -23,10 +23,10 @@ right_kind : (c : In-Instantiated) → get_or c.args.named.now.code.now c.args.j
 right_kind c = omega (arith, left_kind c, c.if-byte-named.false)
 
 left_id : (c : In-Instantiated) → let s = c.args in s.i + 5 ≤ length s.named.now.code.now
-left_id c = id_at c.requires.two.left (left_kind c)
+left_id c = id_at c.requires.comparable.two.left (left_kind c)
 
 right_id : (c : In-Instantiated) → let s = c.args in s.j + 5 ≤ length s.named.now.code.now
-right_id c = id_at c.requires.two.right (right_kind c)
+right_id c = id_at c.requires.comparable.two.right (right_kind c)
 
 bound : (c : In-Uninstantiated) → get_or c.args.named.now.code.now c.args.i 0 ≡ 0
 bound c = c.of_known-kind.ensures ∙ ap kind_byte c.in-Uninstantiated.is
@@ -39,7 +39,7 @@ alike c =
     [ then-same_object w ↦ rw w.if-same_object.true w.then_some-is | else-same_object w ↦ rw w.if-same_object.false (rw w.if-same_object.false at w.then_some-is) ]
 
 pub bound_alike-requires-clause-name_within : goal.bound_alike-requires-clause-name_within
-bound_alike-requires-clause-name_within c = names_within c.requires c.number_at-x.ensures.0 c.number_at-y.ensures.0
+bound_alike-requires-clause-name_within c = names_within c.requires.comparable c.number_at-x.ensures.0 c.number_at-y.ensures.0
 
 pub returns-in_err-same-in-Uninstantiated : goal.returns-in_err-same-in-Uninstantiated
 unfolding compared
@@ -55,28 +55,10 @@ returns-in_ok-same-in-Uninstantiated c =
 
 pub same_bytes-same_object-requires : goal.same_bytes-same_object-requires
 same_bytes-same_object-requires c =
-    names_within c.requires c.number_at-x.ensures.0 c.number_at-y.ensures.0
-
-pub bounds-named-i : goal.bounds-named-i
-bounds-named-i c = omega (arith, parameter_at c.requires.two.left)
-
-pub bounds-named-j : goal.bounds-named-j
-bounds-named-j c = omega (arith, parameter_at c.requires.two.right)
+    names_within c.requires.comparable c.number_at-x.ensures.0 c.number_at-y.ensures.0
 
 pub returns-then-byte-named : goal.returns-then-byte-named
 returns-then-byte-named c = other_kind _ _ _ _ _ _ _ c.if-byte-named.true
-
-pub overflow_add-i : goal.overflow_add-i
-overflow_add-i c = omega (arith, parameter_at c.requires.two.left)
-
-pub number_at-x-requires : goal.number_at-x-requires
-number_at-x-requires c = omega (arith, parameter_at c.requires.two.left)
-
-pub overflow_add-j : goal.overflow_add-j
-overflow_add-j c = omega (arith, parameter_at c.requires.two.right)
-
-pub number_at-y-requires : goal.number_at-y-requires
-number_at-y-requires c = omega (arith, parameter_at c.requires.two.right)
 
 pub number_at-id-requires : goal.number_at-id-requires
 number_at-id-requires c = omega (arith, left_id (goal.at.number_at-id-requires c).In-Instantiated)
@@ -85,7 +67,7 @@ pub number_at-other_id-requires : goal.number_at-other_id-requires
 number_at-other_id-requires c = omega (arith, right_id (goal.at.number_at-other_id-requires c).In-Instantiated)
 
 pub of_known-kind-requires : goal.of_known-kind-requires
-of_known-kind-requires c = omega (arith, (parameter_at c.requires.two.left).kind)
+of_known-kind-requires c = omega (arith, (parameter_at c.requires.comparable.two.left).kind)
 
 pub returns-after-same_object : goal.returns-after-same_object
 returns-after-same_object c =
@@ -95,9 +77,9 @@ returns-after-same_object c =
     (rw (c.then_some-in-Instantiated.ensures, alike (goal.at.returns-after-same_object c).After-then_some-in-Instantiated, c.size-size.ensures ∙ ap kind_size here.in-Instantiated.is) (tested _ _ _))
 
 pub overflow_add-ends : goal.overflow_add-ends
-overflow_add-ends c = omega (arith, (kind_bytes _ (parameter_at c.requires.two.left) _ c.of_known-kind.ensures).0, c.size-size.ensures)
+overflow_add-ends c = omega (arith, (kind_bytes _ (parameter_at c.requires.comparable.two.left) _ c.of_known-kind.ensures).0, c.size-size.ensures)
 
 pub overflow_add-ends-2 : goal.overflow_add-ends-2
 overflow_add-ends-2 c =
     let byte : get_or c.args.named.now.code.now c.args.j 0 ≡ kind_byte c.of_known-kind.result = omega (arith, c.of_known-kind.ensures, c.if-byte-named.false) in
-    omega (arith, (kind_bytes _ (parameter_at c.requires.two.right) _ byte).0, c.size-size.ensures)
+    omega (arith, (kind_bytes _ (parameter_at c.requires.comparable.two.right) _ byte).0, c.size-size.ensures)

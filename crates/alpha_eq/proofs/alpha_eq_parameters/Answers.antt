@@ -4,14 +4,15 @@ use mathlib.Core.Path.{◌≡◌}
 use native.Mathlib.Omega.{arith}
 use Rattle.std.proofs.Common.{rules}
 use Rattle.alpha_eq.proofs.Outcomes.{no_stops, refusal_stops}
-use Rattle.alpha_eq.proofs.Parameters.{all_left, first_asked, first_stops, others_left, none_left}
+use Rattle.alpha_eq.proofs.Parameters.{all_left, first_asked, parameters_inside, first_stops, others_left, none_left}
 use Rattle.alpha_eq.proofs.alpha_eq_parameters.Goals as goal
 
 pub loop-init : goal.loop-init
 loop-init c = all_left _ _ _ _ c.requires
 
 pub alpha_eq_parameter-requires : goal.alpha_eq_parameter-requires
-alpha_eq_parameter-requires c = first_asked c.loop.invariant (omega (arith, c.loop-test.true))
+alpha_eq_parameter-requires c = let first = first_asked c.loop.invariant (omega (arith, c.loop-test.true)) in
+    record { comparable = first; inside = parameters_inside first.two }
 
 pub returns-in_err-next : goal.returns-in_err-next
 returns-in_err-next c =
