@@ -43,6 +43,7 @@ fn column_at(s: &[u8], k: usize) -> Option<u16>
 }
 
 // A refusal with the column of the step that it names, or 0 where it names none or there is no such step.
+#[tactic(auto, unfolding(definitions::specs::Answers::located, definitions::specs::Answers::column_of))]
 pub fn locate(s: &[u8], refusal: Refusal) -> Located
     requires { AfterHeader s.now refusal }
     ensures { result ≡ located s.now refusal }

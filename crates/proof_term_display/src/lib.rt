@@ -194,6 +194,7 @@ fn put_parameter_label<S: Sink<u8>>(sink: &mut S, label: Option<Label>, proposit
 }
 
 // A bracket, if there is one. A closure that puts what stands between two of them would have to state the whole walk in its contract.
+#[tactic(auto, unfolding(crate::specs::Ascriptions::bracket))]
 fn put_bracket<S: Sink<u8>>(sink: &mut S, b: u8, bracketed: bool)
     ensures { S.puts sink.old (bracket bracketed b) sink.new }
 {
@@ -218,6 +219,7 @@ fn ascribed_body(records: &[u16], n: usize) -> Option<usize>
 }
 
 // Whether the body of an ascription is bracketed.
+#[tactic(auto, unfolding(crate::specs::Ascriptions::body_bracketed))]
 fn is_body_bracketed(records: &[u16], ascribed: Option<usize>, style: Style) -> bool
     requires { IfSome ascribed (λ body. record_size * (body + 1) ≤ length records.now) }
     ensures { (f : ℕ → Name) (props : ℕ → Prop ℕ) →

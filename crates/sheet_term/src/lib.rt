@@ -49,6 +49,7 @@ pub fn sheet_term<'a>(
 }
 
 // The label count of any bytes.
+#[tactic(auto, unfolding(definitions::specs::Sheet::step_limit))]
 pub fn label_count(s: &[u8]) -> Result<usize, Refusal>
     ensures { result ≡ counted_of (label_count s.now) }
 {

@@ -10,9 +10,6 @@ use borrow.Author.Rules.{rules}
 use Rattle.checkable.proofs.Terms.{checked_none, checked_unit, checked_part, checked_stop, checked_all, own_stop, labels_below}
 use Rattle.checkable.proofs.+is_checkable.Goals as goal
 
-pub is_plain_record-requires : goal.is_plain_record-requires
-is_plain_record-requires t c = c.requires
-
 pub returns-then-not-is_plain_record : goal.returns-then-not-is_plain_record
 returns-then-not-is_plain_record t c = own_stop _ _ _ _ c.is_plain_record.ensures c.if-not-is_plain_record.true
 

@@ -16,9 +16,6 @@ is_plain_head-requires c = looking_head c.loop-i.invariant c.loop-i-test.true c.
 pub returns-then-not-is_plain_head : goal.returns-then-not-is_plain_head
 returns-then-not-is_plain_head c = looking_stop c.loop-i.invariant c.loop-i-test.true c.is_plain_head.ensures c.if-not-is_plain_head.true
 
-pub head_end-i-requires : goal.head_end-i-requires
-head_end-i-requires c = c.loop-i.invariant.inside
-
 pub loop-i-smaller : goal.loop-i-smaller
 loop-i-smaller c = omega (arith, looking_ends c.loop-i.invariant c.loop-i-test.true c.requires c.head_end-i.ensures)
 

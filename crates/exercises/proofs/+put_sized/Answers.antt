@@ -11,15 +11,6 @@ root : (g : _) (t : ℕ) → (c : After-count-each g t) →
     Root args.names args.k args.i (c.count-each.result / 3)
 root g t c = root_of_lem c.if-k-eq0.false c.requires.1 c.count-each.ensures
 
-pub put_leaf-requires : goal.put_leaf-requires
-put_leaf-requires g t c = rw c.if-k-eq0.true at c.requires
-
-pub returns-then-k-eq0 : goal.returns-then-k-eq0
-returns-then-k-eq0 g t c = rw c.if-k-eq0.true c.put_leaf.ensures
-
-pub count-each-requires : goal.count-each-requires
-count-each-requires g t c = c.requires.0
-
 pub nonzero_div-i : goal.nonzero_div-i
 nonzero_div-i g t c = each_some (root g t (goal.at.nonzero_div-i g t c).After-count-each)
 
@@ -42,9 +33,6 @@ put_sized-requires g t c =
 
 pub overflow_sub-k-2 : goal.overflow_sub-k-2
 overflow_sub-k-2 g t c = omega (arith, (root g t (goal.at.overflow_sub-k-2 g t c).After-count-each).part)
-
-pub overflow_sub-k-3 : goal.overflow_sub-k-3
-overflow_sub-k-3 g t c = c.divide-parts.ensures.few
 
 pub put_sized-requires-2 : goal.put_sized-requires-2
 put_sized-requires-2 g t c =

@@ -8,9 +8,6 @@ use Rattle.exercises.proofs.divide.Goals.{else-loop-size-test, then-loop-size-te
 pub loop-size-init : goal.loop-size-init
 loop-size-init c = first_block _ _ _
 
-pub overflow_sub-k : goal.overflow_sub-k
-overflow_sub-k c = omega (arith, c.loop-size.invariant.few)
-
 pub count-rights-requires : goal.count-rights-requires
 count-rights-requires c = fewer c.requires.0 (omega arith)
 
@@ -19,12 +16,6 @@ count-requires c = fewer c.requires.0 c.loop-size.invariant.few
 
 pub overflow_mul-block : goal.overflow_mul-block
 overflow_mul-block c = let p = product_bounded c.loop-size.invariant c.count.ensures c.count-rights.ensures in omega (arith, p)
-
-pub nonzero_div-result : goal.nonzero_div-result
-nonzero_div-result c = omega (arith, c.count-rights.ensures.some)
-
-pub nonzero_rem-result : goal.nonzero_rem-result
-nonzero_rem-result c = omega (arith, c.count-rights.ensures.some)
 
 pub returns-then-rest-block : goal.returns-then-rest-block
 returns-then-rest-block c = this_block c.loop-size.invariant c.count.ensures c.count-rights.ensures c.if-rest-block.true

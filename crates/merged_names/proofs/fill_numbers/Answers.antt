@@ -1,5 +1,5 @@
 -- The invariant: the numbers of the names below n are stored.
-use mathlib.Core.Path.{refl, ◌∙◌}
+use mathlib.Core.Path.{refl}
 use native.Mathlib.Omega.{arith}
 use Rattle.std.proofs.Common.{rules}
 use Rattle.merged_names.proofs.Storing.{none_yet, all_filled}
@@ -12,22 +12,6 @@ loop-n-init c =
       reached = omega arith;
       so_far = record { numbered = c.requires; missing = none_yet _ _ };
       same = record { same_memory = refl; same_length = refl };
-    }
-
-pub number_name-requires : goal.number_name-requires
-number_name-requires c =
-    let inv = c.loop-n.invariant in
-    record { below = omega (arith, inv.all, c.loop-n-test.true); so_far = inv.so_far }
-
-pub loop-n-preserved : goal.loop-n-preserved
-loop-n-preserved c =
-    let inv = c.loop-n.invariant in
-    let record { so_far = so_far; same_memory = same } = c.number_name.ensures in
-    record {
-      all = inv.all;
-      reached = omega (arith, c.loop-n-test.true);
-      so_far = so_far;
-      same = record { same_memory = same.same_memory ∙ inv.same.same_memory; same_length = same.same_length ∙ inv.same.same_length };
     }
 
 pub returns : goal.returns

@@ -35,12 +35,6 @@ loop-init t c =
     rw all
     (shallow_walk _ _ _ _ _ (pos_of_ne-zero c.if-depth-eq0.false) c.requires c.head_end-i.ensures c.if-code-i.false)
 
-pub overflow_sub-depth : goal.overflow_sub-depth
-overflow_sub-depth t c = pos_of_ne-zero c.if-depth-eq0.false
-
-pub shallow_end-end-requires : goal.shallow_end-end-requires
-shallow_end-end-requires t c = (omega (arith, pos_of_ne-zero c.if-depth-eq0.false), c.loop.invariant.inside)
-
 pub returns-then-code-end : goal.returns-then-code-end
 returns-then-code-end t c =
     walk_stop _ _ _ _ _ c.loop.invariant (omega (arith, counted t (goal.at.returns-then-code-end t c).After-parts-end))

@@ -17,9 +17,6 @@ loop-init c =
     let all : c.args.count - 0 ≡ c.args.count = omega arith in
     rw all (record { inside = c.requires; same = several_run _ _ (drop c.args.at c.args.code.now) })
 
-pub parameter_end-end-requires : goal.parameter_end-end-requires
-parameter_end-end-requires c = c.loop.invariant.inside
-
 pub returns-then-code-end : goal.returns-then-code-end
 returns-then-code-end c = walk_stop _ _ _ _ _ c.loop.invariant (omega arith) c.parameter_end-end.ensures c.if-code-end.true
 

@@ -1,6 +1,5 @@
 -- The loop's invariant: a proposition stands from `at` on exactly where the needed ones stand from `i` on.
 use mathlib.Core.Path.{◌≡◌}
-use mathlib.Core.Logic.Iff
 use native.Mathlib.Omega.{arith}
 use lib.ListN.{get_or}
 use Rattle.prefix_code.specs.Head.{parts_after}
@@ -27,12 +26,6 @@ pub returns : goal.returns
 returns c =
     let none : c.loop-needed.needed ≡ 0 = omega arith in
     walk_end _ _ _ c.requires (rw none at c.loop-needed.invariant.0)
-
-pub loop-needed-init : goal.loop-needed-init
-loop-needed-init c = (record { inside = c.requires; same = λ rest. Iff.rfl }, omega arith)
-
-pub head_end-end-requires : goal.head_end-end-requires
-head_end-end-requires c = c.loop-needed.invariant.0.inside
 
 pub returns-then-code-end : goal.returns-then-code-end
 returns-then-code-end c = walk_no_head _ _ _ _ _ _ c.loop-needed.invariant.0 c.loop-needed-test.true c.head_end-end.ensures c.if-code-end.true

@@ -39,10 +39,6 @@ put_part-returns-then-n-number g t c =
     let text = unit_text _ _ _ _ _ _ _ (number_is g t (goal.at.put_part-returns-then-n-number g t c).After-field-number) c.if-n-number.true in
     put_as g.S.Sink.puts text c.put_all.ensures
 
-pub put_part-is_bracketed-bracketed-requires : goal.put_part-is_bracketed-bracketed-requires
-put_part-is_bracketed-bracketed-requires g t c =
-    omega (arith, c.requires.has_term.held)
-
 pub put_part-put_node-requires : goal.put_part-put_node-requires
 put_part-put_node-requires g t c =
     let which = c.ascribed_body-ascribed.ensures in
@@ -62,9 +58,6 @@ put_part-returns g t c =
 pub put_part-is_body_bracketed-inner-requires : goal.put_part-is_body_bracketed-inner-requires
 put_part-is_body_bracketed-inner-requires g t c = body_held c.ascribed_body-ascribed.ensures (omega (arith, c.requires.has_term.held))
 
-pub put_part-ascribed_body-ascribed-requires : goal.put_part-ascribed_body-ascribed-requires
-put_part-ascribed_body-ascribed-requires g t c = omega (arith, c.requires.has_term.held)
-
 pub put_node-put_item-requires : goal.put_node-put_item-requires
 put_node-put_item-requires g t c =
     let ready = item_ready _ _ _ _ _ _ g.met.S.Sink.laws c.loop-b.invariant (omega arith) in
@@ -75,9 +68,6 @@ put_node-loop-b-preserved g t c = goes_on _ _ _ _ _ _ g.met.S.Sink.laws c.loop-b
 
 pub put_node-returns : goal.put_node-returns
 put_node-returns g t c = ends_past _ _ _ _ _ _ g.met.S.Sink.laws c.loop-b.invariant (omega arith)
-
-pub put_node-kind_at-requires : goal.put_node-kind_at-requires
-put_node-kind_at-requires g t c = c.requires.held
 
 pub put_node-loop-b-init : goal.put_node-loop-b-init
 put_node-loop-b-init g t c =

@@ -26,8 +26,5 @@ returns c = λ f props.
     ap (λ row. get_or row c.rank.result false) c.brackets_of-brackets.ensures
     ∙ bracket_rule c.args.position _ c.args.style _ (form_is c f props)
 
-pub kind_at-requires : goal.kind_at-requires
-kind_at-requires c = c.requires
-
 pub bounds-brackets-rank : goal.bounds-brackets-rank
 bounds-brackets-rank c = rw (form_is c (λ i. []) (λ i. False)) (column_form _).0

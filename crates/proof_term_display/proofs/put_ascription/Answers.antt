@@ -14,8 +14,5 @@ returns g c =
     rw (c.in-Some.is, ← (label_shown c.args.p.now.propositions.memory.bytes.now c.args.p.now.propositions.memory.vocabulary c.args.p.now.records.now c.args.n c.label_at.ensures))
     (g.met.S.Sink.laws.then c.put_all.ensures c.put_label.ensures)
 
-pub label_at-requires : goal.label_at-requires
-label_at-requires g c = c.requires.has_term.held
-
 pub put_label-requires : goal.put_label-requires
 put_label-requires g c = printable_label c.requires.has_term (rw c.in-Some.is at c.requires.has_label) (sym c.label_at.ensures)

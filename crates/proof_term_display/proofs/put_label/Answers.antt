@@ -14,10 +14,6 @@ unfolding rename_label display_label
 returns-in-Datatype g c =
     rw c.in-Datatype.is (put_as g.S.Sink.puts (c.name.ensures ∙ ap (name_of c.args.propositions.now.memory) c.from.ensures) c.put_all.ensures)
 
-pub put_proposition-requires : goal.put_proposition-requires
-put_proposition-requires g c =
-    record { within = c.requires.within; known = rw c.from-in-Proposition.ensures (c.requires.proposition _ c.in-Proposition.is); named = c.requires.named }
-
 pub returns-in-Proposition : goal.returns-in-Proposition
 unfolding rename_label display_label
 returns-in-Proposition g c = rw (c.in-Proposition.is, ← c.from-in-Proposition.ensures) c.put_proposition.ensures

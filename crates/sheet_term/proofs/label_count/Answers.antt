@@ -1,20 +1,12 @@
 -- The root of the term that is held keeps the label count.
-use mathlib.Core.Path.{sym, ap, ◌∙◌}
+use mathlib.Core.Path.{ap, ◌∙◌}
 use borrow.Author.Rules.{rules}
 use Rattle.definitions.specs.Outcome.{map_outcome}
-use Rattle.definitions.specs.Sheet.{step_limit}
 use Rattle.definitions.specs.Answers.{label_count}
 use Rattle.std.specs.Prelude.{Ok}
 use Rattle.sheet_term.specs.Counted.{counted_of}
 use Rattle.sheet_term.proofs.Answers.{no_count}
 use Rattle.sheet_term.proofs.label_count.Goals as goal
-
-pub slice_bounds-annotation_count-end : goal.slice_bounds-annotation_count-end
-unfolding step_limit
-slice_bounds-annotation_count-end c = sym c.in_ok-n.ensures.term.room
-
-pub annotation_count-requires : goal.annotation_count-requires
-annotation_count-requires c = let t = c.in_ok-n.ensures.term in (t.held, t.tallied)
 
 pub returns-in_err-n : goal.returns-in_err-n
 returns-in_err-n c = (search rules) ∙ no_count _ c.in_err-n.ensures

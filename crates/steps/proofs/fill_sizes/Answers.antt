@@ -3,7 +3,6 @@ use Prim.Native.Nat.{ℕ}
 use mathlib.Core.List.{List, []}
 use native.Mathlib.Omega.{arith}
 use Rattle.std.specs.Prelude.{Option, ℕ}
-use Rattle.definitions.specs.Sheet.{step_size}
 use Rattle.definitions.specs.Admission.{too_few_trees}
 use Rattle.steps.specs.Tables.{TreeStart, SizeTable, FilledSizes}
 use Rattle.steps.proofs.Tables.{size_table_none, size_table_more}
@@ -14,15 +13,6 @@ answer : {records : List ℕ} {steps : ℕ} {before after : List ℕ} {r : Optio
     → Filled (λ names pairs code. too_few_trees names pairs code records) (SizeTable records) steps before r after
     → FilledSizes records steps before r after
 answer f = record { found = f.found; table = f.table; kept = f.kept }
-
-pub invariant_of-front : goal.invariant_of-front
-unfolding step_size
-invariant_of-front c =
-    record { sized = record { has_steps = omega arith; few = omega arith; within = omega arith; sizes = c.loop-k.invariant.table } }
-
-pub next_start-requires : goal.next_start-requires
-unfolding step_size
-next_start-requires c = omega arith
 
 pub returns-in_default : goal.returns-in_default
 unfolding TreeStart

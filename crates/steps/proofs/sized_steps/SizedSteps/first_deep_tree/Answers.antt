@@ -15,9 +15,6 @@ answer : {records : List ℕ} {steps limit : ℕ} {before after : List ℕ} {r :
     → FilledHeights records steps limit before r after
 answer f = record { found = f.found; table = f.table; kept = f.kept }
 
-pub tree_height-height-requires : goal.tree_height-height-requires
-tree_height-height-requires c = (omega arith, omega arith, c.loop-k.invariant.table)
-
 pub returns-then-limit-height : goal.returns-then-limit-height
 returns-then-limit-height c =
     let h = c.tree_height-height.ensures in

@@ -1,5 +1,4 @@
 -- The walk back over the premisses by the size table.
-use Prim.Native.Nat.{◌-◌}
 use native.Mathlib.Omega.{arith}
 use Rattle.steps.proofs.Walk.{walk_start, size_fits, walk_on, walk_out, walk_done}
 use Rattle.steps.proofs.sized_steps.SizedSteps.next_start.Goals as goal
@@ -17,9 +16,6 @@ pub loop-preserved : goal.loop-preserved
 loop-preserved c =
     let l = c.loop.invariant in
     (walk_on l.0 _ c.args.self.now.sized.sizes (omega arith), omega arith, l.2)
-
-pub overflow_cast-start : goal.overflow_cast-start
-overflow_cast-start c = omega (arith, c.type_inv.sizes (c.loop.start - 1))
 
 pub returns : goal.returns
 returns c = walk_done c.loop.invariant.0 (omega arith)

@@ -1,5 +1,5 @@
 -- The walk back over the premisses by the size table meets the deepest of them.
-use Prim.Native.Nat.{◌-◌, ◌<◌}
+use Prim.Native.Nat.{◌<◌}
 use mathlib.Core.List.{[]}
 use native.Mathlib.Omega.{arith}
 use Rattle.definitions.specs.Sheet.{step_limit}
@@ -49,9 +49,6 @@ bounds-heights-last c = omega (arith, before (goal.at.bounds-heights-last c).In-
 pub bounds-sizes-last : goal.bounds-sizes-last
 bounds-sizes-last c =
     omega (arith, before (goal.at.bounds-sizes-last c).In-loop, walk_within c.loop.invariant.0, c.args.self.now.sized.within)
-
-pub overflow_cast-start : goal.overflow_cast-start
-overflow_cast-start c = omega (arith, c.type_inv.sizes (c.loop.start - 1))
 
 pub returns : goal.returns
 returns c = deepest_all _ _ _ _ (omega arith) c.loop.invariant.1
