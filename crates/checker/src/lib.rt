@@ -155,7 +155,7 @@ impl<'a> Terms<'a> {
         }
     }
 
-    // Does the term of record m, a node of that number, check against the proposition at p? It is as long as there are kinds.
+    // Does the term of record m, a node of that number, check against the proposition at p?
     #[cycle(check_infer)]
     pub fn check(&self, state: &mut State, m: usize, node: usize, p: usize) -> usize
         requires { JudgeableTerm self.now state.old m node × Stood self.now.code.now p }
@@ -181,10 +181,7 @@ impl<'a> Terms<'a> {
                 self.check(state, first, node + 1, side)
             }
             Kind::Case => self.check_case(state, m, node, p),
-            Kind::Abort => {
-                let bottom = self.code.len() - 1;
-                self.check(state, first, node + 1, bottom)
-            }
+            Kind::Abort => self.check(state, first, node + 1, self.code.len() - 1),
             Kind::Sorry => 0,
             Kind::LetIn => STOPS + node,
             Kind::Ident
