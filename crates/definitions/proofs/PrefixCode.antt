@@ -12,6 +12,7 @@ use Rattle.definitions.specs.Code.{Read, Reading, yield, fail, followed_by, ◌>
 use Rattle.definitions.proofs.Readings.{given, reads_none, reads_some, reads_if, reads_then, Recovers, RecoversAfter, recover_byte, recover_number, recover_fail, recover_picked, entries, whole_read}
 use Rattle.std.proofs.lemmas.Option.{same_Some}
 pub use Rattle.definitions.proofs.Readings.{Bytes}
+pub use Rattle.definitions.proofs.Shape.{code_nonempty}
 
 -- a number is put together from its two bytes
 pub split_number : (n : ℕ) → n % 256 + 256 * (n / 256) ≡ n
@@ -21,15 +22,6 @@ split_number n = omega arith
 read_number : (n : ℕ) (rest : List ℕ) → number (u16 n ++ rest) ≡ given n rest
 unfolding number byte yield followed_by ◌>>=◌ u16
 read_number n rest = rw (split_number n)
-
--- a code has a byte in front
-pub code_nonempty : (p : Prop ℕ) → 0 < length (encode p)
-unfolding encode
-code_nonempty True = omega arith
-code_nonempty False = omega arith
-code_nonempty (Binary c p q) = omega arith
-code_nonempty (Atom a ps) = omega arith
-code_nonempty (Quantified q x t p) = omega arith
 
 module _ (names : ℕ) where
   read_name : (x : ℕ) (rest : List ℕ) → x < names → name_number names (u16 x ++ rest) ≡ given x rest

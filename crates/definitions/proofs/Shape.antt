@@ -1,5 +1,5 @@
 -- What a proposition keeps over other names: how deep it nests, whether it is free of quantifiers, and how long its code is.
-use Prim.Native.Nat.{ℕ, ◌+◌, ◌<◌}
+use Prim.Native.Nat.{ℕ, ◌+◌, ◌*◌, ◌≤◌, ◌<◌}
 use mathlib.Core.Path.{◌≡◌, refl, sym, ◌∙◌}
 use mathlib.Core.List.{List, [], ◌∷◌, map}
 use native.Mathlib.Omega.{arith}
@@ -80,6 +80,19 @@ length_encode False = refl
 length_encode (Binary c p q) = omega (arith, length-append (encode p) (encode q), length_encode p, length_encode q)
 length_encode (Atom a ps) = omega (arith, length_parameters ps)
 length_encode (Quantified q x t p) = omega (arith, length_encode p)
+
+-- each level but the innermost takes at least two bytes
+pub two_bytes_a_level : (p : Prop ℕ) → 2 * nesting p ≤ length (encode p) + 1
+unfolding nesting encode u16
+two_bytes_a_level True = omega arith
+two_bytes_a_level False = omega arith
+two_bytes_a_level (Binary c p q) = omega (arith, length-append (encode p) (encode q), two_bytes_a_level p, two_bytes_a_level q, nests p, nests q)
+two_bytes_a_level (Atom a ps) = omega arith
+two_bytes_a_level (Quantified q x t p) = omega (arith, two_bytes_a_level p)
+
+-- so a code has a byte in front
+pub code_nonempty : (p : Prop ℕ) → 0 < length (encode p)
+code_nonempty p = omega (arith, nests p, two_bytes_a_level p)
 
 -- over other names a code is as long
 pub length_renamed : (f : ℕ → ℕ) (p : Prop ℕ) → length (encode (rename_prop f p)) ≡ length (encode p)

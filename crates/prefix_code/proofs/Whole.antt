@@ -12,9 +12,9 @@ use borrow.Author.Tests.{eq-eqb, ne_eqb, lt-ltb, le-ltb}
 use Rattle.definitions.specs.Prop.{Prop, False, nesting}
 use Rattle.definitions.specs.Code.{encode, decode}
 use Rattle.definitions.specs.Admission.{is_none}
+use Rattle.definitions.proofs.Shape.{two_bytes_a_level}
 use Rattle.definitions.proofs.PrefixCode.{Bytes, decode_encode, encode_decode, encode_injective}
 use Rattle.prefix_code.specs.Scan.{Stands, Ends, At, Scanned, Shallow, shallow_coding}
-use Rattle.prefix_code.proofs.Depth.{two_bytes_a_level}
 use Rattle.prefix_code.proofs.Reading.{is_some}
 
 module _ (names : ℕ) (l : List ℕ) (bytes : Bytes l) where

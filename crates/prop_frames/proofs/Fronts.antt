@@ -13,6 +13,7 @@ use Rattle.definitions.specs.Prop.{Prop, False, Binary, Quantified, impl, is_fal
 use Rattle.definitions.specs.Code.{Reading, yield, followed_by, ◌>>=◌}
 use Rattle.definitions.specs.Display.{is_negation, precedence}
 use Rattle.definitions.specs.TermReader.{standing, same, due, expect, negation, bracket, binder}
+use Rattle.definitions.proofs.Shape.{nests}
 use Rattle.std.proofs.lemmas.List.Edits.{sets}
 use Rattle.words.specs.Places.{Expected}
 use Rattle.atom_reader.specs.declared.PropRead.{PropRead}
@@ -22,7 +23,7 @@ use Rattle.prop_parts.specs.declared.Opening.TheVariants.{Negation, Bracket, Bin
 use Rattle.prop_parts.specs.Found.{opening_sign}
 use Rattle.prop_frames.specs.Fronts.{Front, negated, bracketed, quantified, front_sign, part_least, back_code, around, closing, enclosed, Closes}
 use Rattle.atom_reader.proofs.Readings.{follows_none}
-use Rattle.atom_reader.proofs.Sizes.{nests, negation_bytes, quantified_bytes}
+use Rattle.atom_reader.proofs.Sizes.{negation_bytes, quantified_bytes}
 
 -- a front by its sign
 pub is_bracketed : (f : Front) → bracket ≡ front_sign f → f ≡ bracketed
