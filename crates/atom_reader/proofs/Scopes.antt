@@ -67,7 +67,7 @@ module _ (f g : Name → ℕ) (seen : List Name) (agree : (x : Name) → occurs 
   parameters_same [] h = refl
   parameters_same (p ∷ ps) h = rw (parameter_same p h.0, parameters_same ps h.1)
 
-  prop_same : (p : Prop Name) → Met seen (prop_names p) → rename_prop f p ≡ rename_prop g p
+  pub prop_same : (p : Prop Name) → Met seen (prop_names p) → rename_prop f p ≡ rename_prop g p
   unfolding rename_prop prop_names Met
   prop_same True h = refl
   prop_same False h = refl

@@ -2,19 +2,17 @@
 use Prim.Native.Nat.{ℕ, ◌+◌}
 use mathlib.Core.Path.{◌≡◌, refl, sym, ap, ◌∙◌}
 use mathlib.Core.Bool.{Bool, true, false, ◌&&◌, true≢false, and-eq-true_iff}
-use mathlib.Core.List.{List, [], ◌∷◌, ◌++◌, map, append-nil}
+use mathlib.Core.List.{List, [], ◌∷◌, ◌++◌, append-nil}
 use native.Mathlib.Omega.{arith}
 use lib.ListN.{length}
 use lib.Seq.{sets}
 use lib.Dec.{leb}
 use borrow.Author.Tests.{leb-false}
-use Rattle.definitions.specs.Name.{Name, eq_name}
-use Rattle.definitions.specs.Prop.{Prop, True, False, Binary, Atom, Quantified, PropParameter, Uninstantiated, Instantiated, parameter_name, rename_parameter, rename_prop}
+use Rattle.definitions.specs.Name.{Name}
 use Rattle.definitions.specs.Code.{encode}
 use Rattle.definitions.specs.Sheet.{name_limit}
-use Rattle.definitions.specs.Text.{occurs}
 use Rattle.definitions.specs.Term.{Label, proposition, datatype}
-use Rattle.definitions.specs.TermText.{prop_names, label_names}
+use Rattle.definitions.specs.TermText.{label_names}
 use Rattle.definitions.specs.TermReader.{is_limited_label}
 use Rattle.definitions.specs.TermMemory.{label_size, labels_size, store_label, store_labels}
 use Rattle.reading_laws.specs.TermMachine.{State}
@@ -25,7 +23,7 @@ use Rattle.words.specs.declared.NameTable.{NameTable}
 use Rattle.words.specs.Table.{added, number_in, table_names}
 use Rattle.atom_reader.specs.Scope.{Met}
 use Rattle.atom_reader.specs.Reading.{code_over}
-use Rattle.atom_reader.proofs.Scopes.{met_append, added_meets}
+use Rattle.atom_reader.proofs.Scopes.{added_meets, prop_same}
 use Rattle.proof_term.specs.declared.nodes.Label as numbered
 use Rattle.proof_term.specs.declared.nodes.Label.TheVariants.{Datatype}
 use Rattle.prop_reader.specs.declared.LabelRead.{LabelRead}
@@ -36,28 +34,6 @@ use Rattle.term_stack.specs.declared.Work.{Work}
 use Rattle.term_stack.specs.Numbers.{numbered_label}
 use Rattle.term_stack.specs.Standing.{Scene, Extends, Stored}
 use Rattle.term_openings.proofs.Noting.{crowded_met, too_many_names}
-
--- Numbers that agree on the names of a proposition give it the same code.
-module _ (f g : Name → ℕ) (seen : List Name) (agree : (x : Name) → occurs eq_name x seen ≡ true → f x ≡ g x) where
-  same_parameter : (p : PropParameter Name) → occurs eq_name (parameter_name p) seen ≡ true → rename_parameter f p ≡ rename_parameter g p
-  unfolding rename_parameter parameter_name
-  same_parameter (Uninstantiated x) h = ap Uninstantiated (agree x h)
-  same_parameter (Instantiated x i) h = ap (λ y. Instantiated y i) (agree x h)
-
-  same_parameters : (ps : List (PropParameter Name)) → Met seen (map parameter_name ps) → map (rename_parameter f) ps ≡ map (rename_parameter g) ps
-  unfolding Met
-  same_parameters [] h = refl
-  same_parameters (p ∷ ps) h = rw (same_parameter p h.0, same_parameters ps h.1)
-
-  same_prop : (p : Prop Name) → Met seen (prop_names p) → rename_prop f p ≡ rename_prop g p
-  unfolding rename_prop prop_names Met
-  same_prop True h = refl
-  same_prop False h = refl
-  same_prop (Binary c p q) h =
-      let (left, right) = met_append seen (prop_names p) (prop_names q) h in
-      rw (same_prop p left, same_prop q right)
-  same_prop (Atom a ps) h = rw (agree a h.0, same_parameters ps h.1)
-  same_prop (Quantified q x t p) h = rw (agree x h.0, agree t h.1.0, same_prop p h.1.1)
 
 -- What is kept of a label is what the memory asks.
 module _ {seen : List Name} {code : List ℕ} {to : ℕ} {code' : List ℕ} {r : LabelRead numbered.Label} where
@@ -75,7 +51,7 @@ module _ {seen : List Name} {code : List ℕ} {to : ℕ} {code' : List ℕ} {r :
     kept_code : (l : Label Name) → LabelKept seen code to code' r l → Met seen (label_names l) → code' ≡ store_labels number to (l ∷ []) code
     unfolding store_label store_labels label_names code_over
     kept_code (proposition p) (of_proposition is stored next) known =
-        stored ∙ ap (λ q. sets code to (encode q)) (sym (same_prop number (number_in seen) seen extends p known))
+        stored ∙ ap (λ q. sets code to (encode q)) (sym (prop_same number (number_in seen) seen extends p known))
     kept_code (datatype t) (of_datatype is stored next) known = stored
 
 module _ {text : List ℕ} {at : ℕ} {types : List Name} {held : NameTable} {code : List ℕ} {to : ℕ} {after : NameTable} {code' : List ℕ} {r : LabelRead numbered.Label}
