@@ -1,7 +1,7 @@
 -- A function: its parameter, the label of it, and then an entry for the body.
 use Prim.Native.Nat.{ℕ, ◌<◌}
-use mathlib.Core.Path.{◌≡◌, refl, sym, ap, ◌∙◌}
-use mathlib.Core.Bool.{true, false, true≢false}
+use mathlib.Core.Path.{◌≡◌, sym, ap, ◌∙◌}
+use mathlib.Core.Bool.{false, true≢false}
 use Rattle.std.specs.Prelude.{Option, None, Some}
 use mathlib.Core.List.{List, [], ◌∷◌, ◌++◌, append_assoc, append-nil}
 use native.Mathlib.Omega.{arith}
@@ -9,14 +9,12 @@ use lib.ListN.{drop}
 use Rattle.definitions.specs.Utf8.{utf8}
 use Rattle.definitions.specs.Name.{Name}
 use Rattle.definitions.specs.Term.{Label}
-use Rattle.definitions.specs.TermText.{label_names, parameter_label_names}
-use Rattle.definitions.specs.TermReader.{fn_word, name, expect, parameter_label, prop_levels, is_limited_parameter_label}
-use Rattle.definitions.specs.TermMemory.{parameter_labels}
+use Rattle.definitions.specs.TermText.{parameter_label_names}
+use Rattle.definitions.specs.TermReader.{fn_word, name, expect, parameter_label, prop_levels}
 use Rattle.definitions.proofs.Readings.{given}
 use Rattle.reading_laws.specs.TermMachine.{Entry, function_body, State, reading, and_then, start}
-use Rattle.reading_laws.specs.Marks.{Mark, called, labelled, label_marks, entry_marks, entries_marks, met, nodes_met, names_met, limited_met}
-use Rattle.reading_laws.proofs.OnTheWay.{Fits}
-use Rattle.reading_laws.proofs.TermAnswer.{both}
+use Rattle.reading_laws.specs.Marks.{Mark, called, labelled, label_marks, entry_marks, entries_marks, met, names_met}
+use Rattle.reading_laws.proofs.OnTheWay.{Fits, nodes_label, names_label, label_limited}
 use Rattle.reading_laws.proofs.Turns.{Next, next_then, next_after}
 use Rattle.words.specs.declared.NameTable.{NameTable}
 use Rattle.words.specs.Places.{Expected}
@@ -34,7 +32,7 @@ use Rattle.term_stack.specs.Numbers.{labels_met, code_met, entry_after, entry_re
 use Rattle.term_stack.specs.Standing.{Scene, ThereIs, Stored}
 use Rattle.term_stack.specs.Using.{Comes, Refuses}
 use Rattle.term_stack.proofs.Coming.{unfit, goes_on, ends_here}
-use Rattle.term_stack.proofs.Marked.{code_called, even_labels}
+use Rattle.term_stack.proofs.Marked.{labels_label, code_called, even_labels}
 use Rattle.term_stack.proofs.Opened.{Opens}
 use Rattle.term_openings.specs.Beginning.{Started, NameThere, NameLacksAfter}
 use Rattle.term_openings.specs.Parameters.{fits_parameter, ParameterLacks, ParameterGiven}
@@ -43,37 +41,15 @@ use Rattle.term_openings.proofs.ClosedTerms.{further, number_noted}
 use Rattle.term_openings.proofs.FirstWords.{name_on, name_not, entry_crowded}
 use Rattle.term_openings.proofs.StoredLabels.{label_unfit}
 
--- What the label of a parameter adds to what was met.
-
-label_nodes : (l : Option (Label Name)) → nodes_met (label_marks l) ≡ 0
-unfolding label_marks nodes_met
-label_nodes None = refl
-label_nodes (Some l) = refl
-
-label_names_lem : (l : Option (Label Name)) → names_met (label_marks l) ≡ parameter_label_names l
-unfolding label_marks names_met parameter_label_names
-label_names_lem None = refl
-label_names_lem (Some l) = append-nil (label_names l)
-
-label_marks_lem : (l : Option (Label Name)) → labels_met (label_marks l) ≡ parameter_labels l
-unfolding label_marks labels_met parameter_labels
-label_marks_lem None = refl
-label_marks_lem (Some l) = refl
-
-marks_limited : (l : Option (Label Name)) → is_limited_parameter_label l ≡ true → limited_met (label_marks l) ≡ true
-unfolding label_marks limited_met is_limited_parameter_label
-marks_limited None h = refl
-marks_limited (Some l) h = both h refl
-
--- what is stored with it
+-- what is stored with the label of a parameter
 stored_label : {ms : List Mark} {records : (Name → ℕ) → List ℕ} {stack : (Name → ℕ) → List stacked.Entry} {z : Scene} {work : Work} {used depth to at : ℕ} {types : List Name}
     {after : NameTable} {code : List ℕ} {r : LabelRead (Option numbered.Label)} {l : Option (Label Name)} → Stored ms records stack z work used depth to
     → ParameterGiven z.text at types z.names z.code to after code r l
     → Stored (ms ++ label_marks l) records stack (noting z after code) work used depth r.to
 unfolding code_met
 stored_label {l = l} st g =
-    stored_met (label_marks l) st (rw (label_names_lem l) g.noted) (label_nodes l) (marks_limited l g.limited) (rw (label_marks_lem l) g.to_is)
-    (λ number e. rw (label_marks_lem l) (g.stored number e))
+    stored_met (label_marks l) st (rw (names_label l) g.noted) (nodes_label l) (label_limited l g.limited) (rw (labels_label l) g.to_is)
+    (λ number e. rw (labels_label l) (g.stored number e))
 
 -- a parameter whose label passes the limits
 unfit_parameter : {ms : List Mark} {records : (Name → ℕ) → List ℕ} {stack : (Name → ℕ) → List stacked.Entry} {z : Scene} {work : Work} {used depth to : ℕ}

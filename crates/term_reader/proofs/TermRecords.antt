@@ -1,7 +1,7 @@
 -- The records of a term that is read after these marks are those of the definitions, behind as many records and bytes of code.
 use Prim.Native.Nat.{ℕ, ◌+◌, ◌-◌}
 use mathlib.Core.Path.{◌≡◌, refl, ap, ◌∙◌}
-use Rattle.std.specs.Prelude.{Option, None, Some}
+use Rattle.std.specs.Prelude.{Option}
 use mathlib.Core.List.{List, [], ◌∷◌, ◌++◌, append_assoc, append-nil}
 use native.Mathlib.Omega.{arith}
 use Rattle.definitions.specs.Name.{Name}
@@ -9,16 +9,11 @@ use Rattle.definitions.specs.Term.{Label, ProofTerm, Ident, Pair, Named, Functio
 use Rattle.definitions.specs.TermText.{nodes}
 use Rattle.definitions.specs.TermMemory.{labels_size, parameter_labels, text_labels, records_of}
 use Rattle.reading_laws.specs.Marks.{Mark, called, labelled, node, label_marks, marks, nodes_met}
-use Rattle.reading_laws.proofs.OnTheWay.{nodes_both, nodes_met_lem}
+use Rattle.reading_laws.proofs.OnTheWay.{nodes_both, nodes_label, nodes_met_lem}
 use Rattle.term_stack.specs.Numbers.{labels_met, code_met, root_after, records_after}
-use Rattle.term_stack.proofs.Marked.{labels_both, code_both, code_called}
+use Rattle.term_stack.proofs.Marked.{labels_both, labels_label, code_both, code_called}
 
 -- What was met of a term are its labels.
-
-labels_of : (l : Option (Label Name)) → labels_met (label_marks l) ≡ parameter_labels l
-unfolding labels_met label_marks parameter_labels
-labels_of None = refl
-labels_of (Some l) = refl
 
 labels_node : (ms : List Mark) → labels_met (ms ++ (node ∷ [])) ≡ labels_met ms
 unfolding labels_met
@@ -29,7 +24,7 @@ unfolding labels_met marks text_labels
 labels_met_lem (Ident x) = refl
 labels_met_lem (Pair a b) = rw (labels_both (marks a) (marks b ++ (node ∷ [])), labels_node (marks b), labels_met_lem a, labels_met_lem b)
 labels_met_lem (Named f a) = rw (labels_node (marks a), labels_met_lem a)
-labels_met_lem (Function x l a) = rw (labels_both (label_marks l) (marks a ++ (node ∷ [])), labels_node (marks a), labels_of l, labels_met_lem a)
+labels_met_lem (Function x l a) = rw (labels_both (label_marks l) (marks a ++ (node ∷ [])), labels_node (marks a), labels_label l, labels_met_lem a)
 labels_met_lem (Application a b) = rw (labels_both (marks a) (marks b ++ (node ∷ [])), labels_node (marks b), labels_met_lem a, labels_met_lem b)
 labels_met_lem (LetIn x y a b) = rw (labels_both (marks a) (marks b ++ (node ∷ [])), labels_node (marks b), labels_met_lem a, labels_met_lem b)
 labels_met_lem (Case a x b y c) =
@@ -73,19 +68,14 @@ two_code : (ms : List Mark) (x y : Name) → code_met (ms ++ (called x ∷ calle
 unfolding code_met labels_met labels_size
 two_code ms x y = code_both ms (called x ∷ called y ∷ []) ∙ omega arith
 
-nodes_of : (l : Option (Label Name)) → nodes_met (label_marks l) ≡ 0
-unfolding nodes_met label_marks
-nodes_of None = refl
-nodes_of (Some l) = refl
-
 nodes_parameter : (ms : List Mark) (x : Name) (l : Option (Label Name)) → nodes_met (ms ++ (called x ∷ label_marks l)) ≡ nodes_met ms
 unfolding nodes_met
-nodes_parameter ms x l = nodes_both ms (called x ∷ label_marks l) ∙ omega (arith, nodes_of l)
+nodes_parameter ms x l = nodes_both ms (called x ∷ label_marks l) ∙ omega (arith, nodes_label l)
 
 code_parameter : (ms : List Mark) (x : Name) (l : Option (Label Name))
     → code_met (ms ++ (called x ∷ label_marks l)) ≡ code_met ms + labels_size (parameter_labels l)
 unfolding code_met labels_met
-code_parameter ms x l = code_both ms (called x ∷ label_marks l) ∙ ap (λ ls. code_met ms + labels_size ls) (labels_of l)
+code_parameter ms x l = code_both ms (called x ∷ label_marks l) ∙ ap (λ ls. code_met ms + labels_size ls) (labels_label l)
 
 module _ (number : Name → ℕ) where
   pub records_are : (ms : List Mark) (t : ProofTerm Name) → records_after number ms t ≡ records_of number (nodes_met ms) (code_met ms) t

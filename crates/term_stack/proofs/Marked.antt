@@ -7,8 +7,8 @@ use native.Mathlib.Omega.{arith}
 use Rattle.definitions.specs.Name.{Name}
 use Rattle.definitions.specs.Term.{Label, proposition, datatype, ProofTerm, Ident, Pair, Named, Function, Application, LetIn, Case, TypeAscription, Unit, Sorry, annotation_count, is_labelled}
 use Rattle.definitions.specs.TermText.{nodes}
-use Rattle.definitions.specs.TermMemory.{label_size, labels_size, store_label, store_labels}
-use Rattle.reading_laws.specs.Marks.{Mark, called, labelled, node}
+use Rattle.definitions.specs.TermMemory.{label_size, labels_size, parameter_labels, store_label, store_labels}
+use Rattle.reading_laws.specs.Marks.{Mark, called, labelled, node, label_marks}
 use Rattle.words.specs.Table.{added, number_in}
 use Rattle.words.proofs.Added.{met_added}
 use Rattle.term_stack.specs.Numbers.{labels_met, code_met}
@@ -20,6 +20,11 @@ labels_both [] b = refl
 labels_both (called x ∷ a) b = labels_both a b
 labels_both (labelled l ∷ a) b = ap (λ ls. l ∷ ls) (labels_both a b)
 labels_both (node ∷ a) b = labels_both a b
+
+pub labels_label : (l : Option (Label Name)) → labels_met (label_marks l) ≡ parameter_labels l
+unfolding labels_met label_marks parameter_labels
+labels_label None = refl
+labels_label (Some l) = refl
 
 pub sizes_both : (a b : List (Label Name)) → labels_size (a ++ b) ≡ labels_size a + labels_size b
 unfolding labels_size
