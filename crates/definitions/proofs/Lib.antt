@@ -10,6 +10,7 @@ pub mod Connectives
 pub mod Views
 pub mod Equal
 pub mod Shape
+pub mod SignLengths
 pub mod Readings
 pub mod PrefixCode
 pub mod Verdicts

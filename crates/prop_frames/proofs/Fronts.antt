@@ -1,7 +1,7 @@
 -- What stands in front of a part is closed after it.
 use Prim.Native.Nat.{ℕ, ◌+◌, ◌≤◌}
 use mathlib.Core.Path.{◌≡◌, refl, sym, ap, ◌∙◌}
-use mathlib.Core.Bool.{Bool, true, false, beq}
+use mathlib.Core.Bool.{Bool, true, false}
 use Rattle.std.specs.Prelude.{None, Some}
 use mathlib.Core.List.{List, [], ◌∷◌}
 use native.Mathlib.Omega.{arith}
@@ -143,11 +143,3 @@ module _ {q : Prop Name} {text code : List ℕ} {to : ℕ} {part : PropRead} (m 
       from = omega arith;
     };
   }
-
--- brackets stand exactly where they are due
-pub equal_same : (own due : Bool) → beq own due ≡ same own due
-unfolding same
-equal_same true true = refl
-equal_same true false = refl
-equal_same false true = refl
-equal_same false false = refl

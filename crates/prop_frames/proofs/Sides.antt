@@ -11,6 +11,7 @@ use Rattle.definitions.specs.Name.{Name}
 use Rattle.definitions.specs.Prop.{Prop, Connective, connective_byte, is_false, nesting}
 use Rattle.definitions.specs.Display.{connective_precedence, is_negation, precedence, wraps_left, wraps_right}
 use Rattle.definitions.specs.TermReader.{Shown, standing, same, connective, strong_enough, goes_on}
+use Rattle.reading_laws.proofs.PropTexts.{same_false}
 use Rattle.prefix_code.specs.declared.Connective as read
 use Rattle.prefix_code.specs.declared.Connective.TheVariants.{And, Or, Impl}
 use Rattle.prefix_code.specs.Shape.{meant}
@@ -37,10 +38,10 @@ module _ {text : List ℕ} {at : ℕ} {c : read.Connective} (there : ConnectiveA
     reads = rw (there.reads, le-leb least (connective_precedence (meant c)) (omega (arith, strength))) refl;
   }
 
-same_false : (t : Bool) → same t false ≡ not t
+same_not : (t : Bool) → same t false ≡ not t
 unfolding same
-same_false true = refl
-same_false false = refl
+same_not true = refl
+same_not false = refl
 
 negates : (q : Prop Name) (k : read.Connective) → k ≡ Impl → is_negation (meant k) q ≡ is_false q
 unfolding is_negation
@@ -81,7 +82,7 @@ module _ (k : read.Connective) {p q : Prop Name} {left right : PropRead} (m : Me
       rest_agrees g = rw (sym left_due ∙ e, sym right_due ∙ g) refl
 
       pub no_negation : f ≡ true → k ≡ Impl → not right.bottom ≡ agrees
-      no_negation g h = sym (rest_agrees g ∙ (same_false (is_negation c q) ∙ ap not (negates q k h ∙ sym n.bottom_is)))
+      no_negation g h = sym (rest_agrees g ∙ (same_not (is_negation c q) ∙ ap not (negates q k h ∙ sym n.bottom_is)))
 
       pub other_agrees : f ≡ true → (k ≡ Impl → ⊥) → true ≡ agrees
       unfolding same
@@ -96,11 +97,6 @@ sides_are c p q e =
     let (first, others) = (and-eq-true_iff _ _).0 e in
     let (second, third) = (and-eq-true_iff _ _).0 others in
     (first, second, third)
-
-not_same : (t : Bool) → same t false ≡ true → t ≡ false
-unfolding same
-not_same true e = sym e
-not_same false e = refl
 
 module _ {c : Connective} {p q : Prop Name} {text code after : List ℕ} {to : ℕ} {left right : PropRead} (m : Measured left p) (n : Measured right q) where
   pub joins_sides : {t : Bool} {deep strength : ℕ} → t ≡ sides_agree c (standing left.own p) (standing right.own q) → t ≡ true
@@ -119,7 +115,7 @@ module _ {c : Connective} {p q : Prop Name} {text code after : List ℕ} {to : �
           measured = record {
             size_is = omega (arith, binary_bytes c p q, m.size_is, n.size_is);
             nesting_is = omega (arith, deeper, m.nesting_is, n.nesting_is);
-            strength_is = rw (not_same _ (sides_are c (standing left.own p) (standing right.own q) agrees).2) strong;
+            strength_is = rw (same_false _ (sides_are c (standing left.own p) (standing right.own q) agrees).2) strong;
             bottom_is = refl;
           };
           stored = stored;

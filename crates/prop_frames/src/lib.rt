@@ -33,7 +33,7 @@ pub struct BinderRead {
 }
 
 // Whether something stands in brackets of its own exactly where these are due.
-#[tactic(auto, using(crate::proofs::Fronts::equal_same))]
+#[tactic(auto, using(reading_laws::proofs::PropTexts::same_is))]
 fn agree(own: bool, due: bool) -> bool
     ensures { result ≡ same own due }
 {

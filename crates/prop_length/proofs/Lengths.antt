@@ -7,10 +7,11 @@ use native.Mathlib.Omega.{arith}
 use lib.ListN.{length, get_or, drop, length-append, length-take}
 use lib.Dec.{ltb}
 use Rattle.definitions.specs.Name.{Name}
-use Rattle.definitions.specs.Prop.{Prop, True, False, Binary, Atom, Quantified, PropParameter, Uninstantiated, Instantiated, parameter_name, Connective, and, or, impl, Quantifier, for_all, exists, rename_parameter, rename_prop}
+use Rattle.definitions.specs.Prop.{Prop, True, False, Binary, Atom, Quantified, PropParameter, Uninstantiated, Instantiated, parameter_name, and, Quantifier, rename_parameter, rename_prop}
 use Rattle.definitions.specs.Code.{u16, encode_parameter, encode_parameters, encode}
 use Rattle.definitions.specs.Sheet.{pair_size, number_at, pair_offset, pair_length, marked}
 use Rattle.definitions.specs.Display.{wrap, is_negation, precedence, wraps_left, wraps_right, connective_text, quantifier_text, following_parameters, display_parameters, display_prop}
+use Rattle.definitions.proofs.SignLengths.{connective_length, quantifier_length, wrap_most}
 use Rattle.definitions.proofs.PrefixCode.{Bytes}
 use Rattle.prefix_code.specs.PropAt.{prop_at}
 use Rattle.prefix_code.proofs.Reading.{part_bytes}
@@ -24,22 +25,6 @@ use Rattle.prop.proofs.Parts.{own_end}
 pub wrapped_length : (t : List ℕ) → length (wrap true t) ≡ 2 + length t
 unfolding wrap
 wrapped_length t = omega (arith, length-append t (41 ∷ []))
-
-wrap_most : (b : Bool) (t : List ℕ) → length (wrap b t) ≤ 2 + length t
-unfolding wrap
-wrap_most true t = omega (arith, length-append t (41 ∷ []))
-wrap_most false t = omega arith
-
-connective_length : (c : Connective) → length (connective_text c) ≡ 5
-unfolding connective_text
-connective_length and = refl
-connective_length or = refl
-connective_length impl = refl
-
-quantifier_length : (q : Quantifier) → length (quantifier_text q) ≡ 3
-unfolding quantifier_text
-quantifier_length for_all = refl
-quantifier_length exists = refl
 
 -- a name's length is a number of its pair
 pub short_name : (bytes : List ℕ) (v : Vocabulary) → Bytes bytes → (n : ℕ) → length (name_in bytes v n) ≤ 65535

@@ -1,22 +1,20 @@
 -- Each turn of the machine brings it nearer to its end: so many turns suffice as the bytes left and the entries say.
 use Prim.Native.Nat.{ℕ, zero, suc, ◌+◌, ◌*◌, ◌<◌, ◌≤◌}
-use mathlib.Core.Path.{◌≡◌, refl, sym, ap, ◌∙◌}
-use mathlib.Core.Bool.{true, false, true≢false}
+use mathlib.Core.Path.{◌≡◌, refl, ap, ◌∙◌}
+use mathlib.Core.Bool.{true, false}
 use Rattle.std.specs.Prelude.{Option, None, Some}
 use mathlib.Core.List.{List, [], ◌∷◌, ◌++◌}
 use native.Mathlib.Omega.{arith}
 use lib.ListN.{length, length-append}
 use Rattle.definitions.specs.declared.Style.TheVariants.{Strict}
 use Rattle.definitions.specs.Utf8.{utf8}
-use Rattle.definitions.specs.Name.{Name, is_name}
+use Rattle.definitions.specs.Name.{Name}
 use Rattle.definitions.specs.Code.{yield}
 use Rattle.definitions.specs.Term.{ProofTerm, Ident, Pair, Unit, Sorry}
 use Rattle.definitions.specs.Display.{display_label, display_parameter_label, function_of, argument_of, body_of, ascribed_by, within, wraps}
-use Rattle.definitions.specs.Sheet.{name_length_limit}
-use Rattle.definitions.specs.CallerNames.{well_formed}
-use Rattle.definitions.specs.TermText.{is_admitted, Admitted}
 use Rattle.definitions.specs.TermReader.{Shown, standing, word, name, Start, fn_word, case_word, let_word, sorry_word, no_word, call_word, start_of, is_sorry, argument_follows, label, parameter_label, prop_levels}
 use Rattle.reading_laws.specs.TermMachine.{Purpose, as_head, as_argument, as_body, Entry, in_bracket, second, function_body, case_head, case_first, case_second, let_head, let_body, State, reading, holding, giving, used, closed_for, onward, after_turn, start, chain, give, turn, run}
+use Rattle.reading_laws.proofs.WordsRead.{some_byte}
 use Rattle.reading_laws.proofs.MachineReads.{Steps, done, next as turned}
 use Rattle.reading_laws.proofs.TermConventions.{NameIn, gives_name, word_is, spelled, spelled_sorry, LabelIn, ParameterLabelIn, gives_label, gives_parameter_label}
 use Rattle.reading_laws.proofs.Turns.{Next, next_then, next_if, next_after, next_or, next_due, next_cond, next_some}
@@ -36,11 +34,6 @@ Below n σ = left σ < n
 after_bytes : (s a t : List ℕ) → s ≡ a ++ t → length s ≡ length a + length t
 after_bytes s a t e = ap length e ∙ length-append a t
 
-name_bytes : (x : Name) → Admitted x → 1 ≤ length x
-unfolding is_admitted well_formed name_length_limit is_name
-name_bytes [] h = absurd (true≢false (sym h))
-name_bytes (b ∷ x) h = omega arith
-
 module _ (n : ℕ) where
   -- a closed term for a purpose
   below_used : (k : List Entry) (p : Purpose) (a : Shown (ProofTerm Name)) (s : List ℕ) → 3 * length s + (2 * length k + 1) < n → Next (Below n) (used k p a s)
@@ -53,7 +46,7 @@ module _ (n : ℕ) where
   unfolding Next closed_for left
   below_closed k p s h =
       next_if (Below n) (NameIn s) (name s) _ _ (gives_name s)
-      (λ x t e. below_used k p (standing false (Ident x)) t (let l = after_bytes s x t e.1 in let one = name_bytes x e.0 in omega (arith, l, one, h)))
+      (λ x t e. below_used k p (standing false (Ident x)) t (let l = after_bytes s x t e.1 in let one = some_byte x e.0 in omega (arith, l, one, h)))
       (next_cond (Below n) (is_sorry (start_of (word s).value)) _ _
       (λ b. let d : s ≡ utf8 "sorry" ++ (word s).rest = rw (spelled_sorry (word s).value (start_of (word s).value) b (spelled (word s).value)) at (word_is s) in
       below_used k p (standing false Sorry) (word s).rest (let l = after_bytes s (utf8 "sorry") (word s).rest d in omega (arith, l, h)))

@@ -1,26 +1,26 @@
--- The code of a conventional proposition is at most twice its text and two bytes more.
-use Prim.Native.Nat.{ℕ, suc, ◌+◌, ◌*◌, ◌≤◌}
+-- The code of a conventional proposition is at most twice its text and two bytes more; every code has an even size.
+use Prim.Native.Nat.{ℕ, suc, ◌+◌, ◌*◌, ◌%◌, ◌≤◌}
 use mathlib.Core.Path.{◌≡◌, refl, sym}
 use mathlib.Core.Bool.{Bool, true, false, cond, true≢false}
 use mathlib.Core.List.{List, [], ◌∷◌, ◌++◌, map}
 use native.Mathlib.Omega.{arith}
 use lib.ListN.{length, length-append}
 use Rattle.definitions.specs.Utf8.{utf8}
-use Rattle.definitions.specs.Name.{Name, is_name}
-use Rattle.definitions.specs.Prop.{Prop, True, False, Binary, Atom, Quantified, PropParameter, Uninstantiated, Instantiated, parameter_name, is_false, Connective, and, or, impl, Quantifier, for_all, exists, rename_prop, rename_parameter}
+use Rattle.definitions.specs.Name.{Name}
+use Rattle.definitions.specs.Prop.{Prop, True, False, Binary, Atom, Quantified, PropParameter, Uninstantiated, Instantiated, parameter_name, is_false, Connective, and, or, impl, rename_prop, rename_parameter}
 use Rattle.definitions.specs.Code.{u16, encode_parameter, encode_parameters, encode}
 use Rattle.definitions.specs.Display.{wrap, is_negation, precedence, wraps_left, wraps_right, connective_text, quantifier_text, following_parameters, display_parameters, display_prop}
-use Rattle.definitions.specs.TermText.{Admitted, ConventionalParameters, ConventionalProp, code_bytes}
-use Rattle.reading_laws.proofs.WordsRead.{is_name_lem}
+use Rattle.definitions.specs.TermText.{ConventionalParameters, ConventionalProp, code_bytes}
+use Rattle.definitions.specs.Term.{Label, proposition, datatype}
+use Rattle.definitions.specs.TermMemory.{label_size}
+use Rattle.definitions.proofs.SignLengths.{connective_length, quantifier_length}
+use Rattle.reading_laws.proofs.WordsRead.{some_byte}
 
--- a name has a byte
-name_long : (x : Name) → is_name x ≡ true → 1 ≤ length x
-unfolding is_name
-name_long [] h = absurd (true≢false (sym h))
-name_long (b ∷ x) h = omega arith
-
-some_byte : (x : Name) → Admitted x → 1 ≤ length x
-some_byte x ok = name_long x (is_name_lem x ok)
+-- codes of labels have even sizes
+pub even_label : (l : Label Name) → label_size l % 2 ≡ 0
+unfolding label_size
+even_label (proposition p) = omega arith
+even_label (datatype t) = refl
 
 -- what is denied has a code of one byte
 short_false : (c : Connective) (q : Prop Name) → is_negation c q ≡ true → length (encode (rename_prop {M = ℕ} (λ x. 0) q)) ≡ 1
@@ -37,17 +37,6 @@ wrap_longer : (flag : Bool) (s : List ℕ) → length s ≤ length (wrap flag s)
 unfolding wrap
 wrap_longer true s = omega (arith, length-append s (41 ∷ []))
 wrap_longer false s = omega arith
-
-connective_long : (c : Connective) → length (connective_text c) ≡ 5
-unfolding connective_text
-connective_long and = refl
-connective_long or = refl
-connective_long impl = refl
-
-quantifier_long : (q : Quantifier) → length (quantifier_text q) ≡ 3
-unfolding quantifier_text
-quantifier_long for_all = refl
-quantifier_long exists = refl
 
 abbrev code_of : List (PropParameter Name) → ℕ
 code_of ps = length (encode_parameters (map (rename_parameter (λ x. 0)) ps))
@@ -104,7 +93,7 @@ label_code bound (Binary c p q) h = go (is_negation c q) refl (label_code bound 
           length-append (code p) (code q),
           wrap_longer (wraps_left c (precedence p)) (display_prop p),
           wrap_longer (wraps_right c (precedence q)) (display_prop q),
-          connective_long c,
+          connective_length c,
           length-append (wrap (wraps_left c (precedence p)) (display_prop p)) (connective_text c ++ wrap (wraps_right c (precedence q)) (display_prop q)),
           length-append (connective_text c) (wrap (wraps_right c (precedence q)) (display_prop q)),
         )
@@ -115,7 +104,7 @@ label_code bound (Quantified q x t p) h =
       label_code (x ∷ bound) p h.2,
       some_byte x h.0,
       some_byte t h.1,
-      quantifier_long q,
+      quantifier_length q,
       length-append (quantifier_text q) (x ++ (58 ∷ (t ++ (46 ∷ 32 ∷ display_prop p)))),
       length-append x (58 ∷ (t ++ (46 ∷ 32 ∷ display_prop p))),
       length-append t (46 ∷ 32 ∷ display_prop p),

@@ -19,7 +19,8 @@ use Rattle.definitions.specs.TermReader.{Shown, standing, same, is_limited, sett
 use Rattle.reading_laws.specs.TermMachine.{reading, giving, run, machine_answer}
 use Rattle.definitions.proofs.Readings.{whole_read}
 use Rattle.reading_laws.proofs.OneTerm.{nothing_follows, good_term, the_term}
-use Rattle.reading_laws.proofs.TermAnswer.{both, clash, not_own, limits_test, limits_passed, answer_is}
+use Rattle.reading_laws.proofs.PropTexts.{same_false}
+use Rattle.reading_laws.proofs.TermAnswer.{both, clash, limits_test, limits_passed, answer_is}
 use Rattle.reading_laws.proofs.MachineReads.{Steps, machine_reads}
 use Rattle.reading_laws.proofs.MachineSound.{machine_sound}
 use Rattle.reading_laws.proofs.Descent.{left, run_reaches, run_comes}
@@ -56,7 +57,7 @@ module _ (types : List Name) (text : List ℕ) where
       go true h is =
           let p = (and-eq-true_iff (same a.own false) (is_limited a.shown)).0 h in
           let w = run_comes types turns (reading [] text) a [] (whole_read (run types turns (reading [] text)) a e) in
-          let of = way_of a w (not_own a.own p.0) p.1 in
+          let of = way_of a w (same_false a.own p.0) p.1 in
           reads a.shown (record { short = short; listed = listed; the_term = the_term types text a.shown of })
       go false h is = refuses (λ u k. clash u (sym is ∙ readable_run u k))
 

@@ -1,7 +1,7 @@
 -- The text of a proposition reads back as that proposition, whatever may follow it.
 use Prim.Native.Nat.{ℕ, zero, suc, ◌+◌, ◌-◌, ◌*◌, max, ◌<◌, ◌≤◌}
 use mathlib.Core.Path.{◌≡◌, refl, sym, ap, ◌∙◌}
-use mathlib.Core.Bool.{Bool, true, false, cond, true≢false}
+use mathlib.Core.Bool.{Bool, true, false, beq, cond, true≢false}
 use Rattle.std.specs.Prelude.{Option, None, Some}
 use mathlib.Core.List.{List, [], ◌∷◌, ◌++◌, append_assoc}
 use native.Mathlib.Omega.{arith}
@@ -156,7 +156,20 @@ unfolding same
 same_same true = refl
 same_same false = refl
 
-extra_small : (b : Bool) → extra b ≤ 1
+pub same_false : (b : Bool) → same b false ≡ true → b ≡ false
+unfolding same
+same_false true e = sym e
+same_false false e = refl
+
+-- brackets are those that are due where both tests agree
+pub same_is : (own due : Bool) → beq own due ≡ same own due
+unfolding same
+same_is true true = refl
+same_is true false = refl
+same_is false true = refl
+same_is false false = refl
+
+pub extra_small : (b : Bool) → extra b ≤ 1
 unfolding extra
 extra_small true = omega arith
 extra_small false = omega arith

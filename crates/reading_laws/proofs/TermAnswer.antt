@@ -21,6 +21,7 @@ use Rattle.definitions.specs.TermText.{OfParameterLabel, Each, term_text_limit, 
 use Rattle.definitions.specs.TermReader.{Shown, standing, same, read_term, prop_levels, term_levels, is_limited_label, is_limited_parameter_label, has_limited_labels, is_limited, settled, read_answer}
 use Rattle.definitions.proofs.Readings.{given, whole_read}
 use Rattle.reading_laws.specs.Coded.{Coded}
+use Rattle.reading_laws.proofs.PropTexts.{same_false}
 use Rattle.reading_laws.proofs.TermConventions.{Gives, TermIn, gives_term}
 use Rattle.reading_laws.proofs.OneTerm.{read_strict, the_term, restores}
 
@@ -32,11 +33,6 @@ both {a} {b} p q = (and-eq-true_iff a b).1 (p, q)
 pub clash : {A : Type 0} (a : A) → refuse 20 0 ≡ accepted a → ⊥
 unfolding refuse
 clash a e = grind arith
-
-pub not_own : (own : Bool) → same own false ≡ true → own ≡ false
-unfolding same
-not_own true e = sym e
-not_own false e = refl
 
 -- The tests of the limits say what the limits say.
 label_test : (l : Label Name) → LimitedLabel l → is_limited_label l ≡ true
@@ -136,7 +132,7 @@ module _ (types : List Name) where
             → read_answer types text ≡ cond b (accepted a.shown) (refuse 20 0) → ReadsAs types text (cond b (accepted a.shown) (refuse 20 0))
         go true h is =
             let p = (and-eq-true_iff (same a.own false) (is_limited a.shown)).0 h in
-            let of = read_term_of a (whole_read (read_term types prop_levels term_levels text) a e) (not_own a.own p.0) p.1 in
+            let of = read_term_of a (whole_read (read_term types prop_levels term_levels text) a e) (same_false a.own p.0) p.1 in
             reads a.shown (record { short = short; listed = listed; the_term = the_term types text a.shown of })
         go false h is = refuses (λ u k. clash u (sym is ∙ readable_accepted u k))
 

@@ -22,7 +22,7 @@ use Rattle.definitions.specs.TermReader.{Shown, standing, same, due, inner, word
 use Rattle.definitions.specs.TermReader as reader
 use Rattle.definitions.proofs.Readings.{given}
 use Rattle.reading_laws.proofs.WordsRead.{stops, word_whole, is_name_lem, read_word, read_name, no_start}
-use Rattle.reading_laws.proofs.PropTexts.{After, extra, same_same, not_read, read_whole_prop}
+use Rattle.reading_laws.proofs.PropTexts.{After, extra, extra_small, same_same, not_read, read_whole_prop}
 
 -- whether bytes stand in front
 unfoldable pub is_next : List ℕ → List ℕ → Bool
@@ -76,11 +76,6 @@ part_bare call = refl
 part_bare display.function = refl
 part_bare block = refl
 part_bare ascription = refl
-
-pub extra_small : (b : Bool) → extra b ≤ 1
-unfolding extra
-extra_small true = omega arith
-extra_small false = omega arith
 
 -- With the caller's list of datatype names and so many levels for a label's proposition:
 module _ (types : List Name) (levels : ℕ) where

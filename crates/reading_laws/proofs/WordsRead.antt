@@ -1,5 +1,5 @@
 -- What the reader of strict text finds in front: a word, a name, bytes that are expected.
-use Prim.Native.Nat.{ℕ, zero, suc, ◌<◌}
+use Prim.Native.Nat.{ℕ, zero, suc, ◌<◌, ◌≤◌}
 use mathlib.Core.Path.{◌≡◌, refl, sym}
 use mathlib.Core.Bool.{Bool, true, false, not, true≢false, and-eq-true_iff}
 use mathlib.Core.List.{List, [], ◌∷◌, ◌++◌}
@@ -44,6 +44,11 @@ name_follows (b ∷ x) h =
     let parts = (and-eq-true_iff (may_begin (byte_class b)) (all_may_follow x)).0 h in
     rw (begins_follows (byte_class b) parts.0, parts.1)
 
+name_long : (x : Name) → is_name x ≡ true → 1 ≤ length x
+unfolding is_name
+name_long [] h = absurd (true≢false (sym h))
+name_long (b ∷ x) h = omega arith
+
 module _ (x : Name) (admitted : Admitted x) where
   pub well_formed_lem : well_formed x ≡ true
   unfolding is_admitted
@@ -52,6 +57,10 @@ module _ (x : Name) (admitted : Admitted x) where
   pub is_name_lem : is_name x ≡ true
   unfolding well_formed
   is_name_lem = ((and-eq-true_iff (leb (length x) name_length_limit) (is_name x)).0 well_formed_lem).1
+
+  -- a name has a byte
+  pub some_byte : 1 ≤ length x
+  some_byte = name_long x is_name_lem
 
   no_keyword : occurs eq_name x keywords ≡ false
   unfolding is_admitted

@@ -1,41 +1,21 @@
 -- Where labels are stored one after another, the code of each proposition stands at its offset.
 use Prim.Native.Nat.{ℕ, suc, ◌+◌, ◌≤◌}
 use mathlib.Core.Path.{◌≡◌, refl, sym, ap, ◌∙◌}
-use mathlib.Core.List.{List, [], ◌∷◌, ◌++◌, map, append_assoc}
+use mathlib.Core.List.{List, [], ◌∷◌, ◌++◌, append_assoc}
 use native.Mathlib.Omega.{arith}
-use lib.ListN.{length, set, take, drop, length-append, take-append-drop}
+use lib.ListN.{length, set, take, drop, take-append-drop}
 use lib.Seq.{length-take-le, take_at, drop_at, take-add, take-set-le, sets, length-sets, sets-eq}
 use Rattle.definitions.specs.Name.{Name}
-use Rattle.definitions.specs.Prop.{Prop, True, False, Binary, Atom, Quantified, PropParameter, Uninstantiated, Instantiated, rename_parameter, rename_prop}
-use Rattle.definitions.specs.Code.{u16, encode_parameter, encode_parameters, encode, Codable}
+use Rattle.definitions.specs.Prop.{Prop, rename_prop}
+use Rattle.definitions.specs.Code.{encode, Codable}
 use Rattle.definitions.specs.Term.{Label, proposition, datatype}
 use Rattle.definitions.specs.TermText.{code_bytes}
 use Rattle.definitions.specs.TermMemory.{label_size, labels_size, store_label, store_labels}
+use Rattle.definitions.proofs.Shape.{length_same}
 use Rattle.prefix_code.specs.Scan.{Stands, At}
 use Rattle.prefix_code.specs.PropAt.{prop_at, Present}
 use Rattle.prefix_code.proofs.Reading.{prop_at_lem, present}
 use Rattle.term_meaning.specs.Offsets.{BeginsAt, first, later}
-
--- Two numberings give codes of one length.
-module _ {N : Type 0} (f g : N → ℕ) where
-  parameter_size : (p : PropParameter N) → length (encode_parameter (rename_parameter f p)) ≡ length (encode_parameter (rename_parameter g p))
-  unfolding encode_parameter rename_parameter u16
-  parameter_size (Uninstantiated x) = refl
-  parameter_size (Instantiated x i) = refl
-
-  parameters_size : (ps : List (PropParameter N))
-      → length (encode_parameters (map (rename_parameter f) ps)) ≡ length (encode_parameters (map (rename_parameter g) ps))
-  unfolding encode_parameters
-  parameters_size [] = refl
-  parameters_size (p ∷ ps) = simp length-append (omega (arith, parameter_size p, parameters_size ps))
-
-  code_size : (p : Prop N) → length (encode (rename_prop f p)) ≡ length (encode (rename_prop g p))
-  unfolding encode rename_prop u16
-  code_size True = refl
-  code_size False = refl
-  code_size (Binary c p q) = simp length-append (omega (arith, code_size p, code_size q))
-  code_size (Atom a ps) = omega (arith, parameters_size ps)
-  code_size (Quantified q x t p) = omega (arith, code_size p)
 
 -- What is stored stands there, and nothing before it changes.
 stored_below : (vs l : List ℕ) (i n : ℕ) → n ≤ i → take n (sets l i vs) ≡ take n l
@@ -54,7 +34,7 @@ module _ (number : Name → ℕ) where
   -- the code of a label takes no more than its size
   code_within : (p : Prop Name) → length (encode (rename_prop number p)) ≤ label_size (proposition p)
   unfolding label_size code_bytes
-  code_within p = omega (arith, code_size number (λ x. 0) p)
+  code_within p = omega (arith, length_same number (λ x. 0) p)
 
   store_length : (to : ℕ) (l : Label Name) (code : List ℕ) → length (store_label number to l code) ≡ length code
   unfolding store_label

@@ -7,8 +7,9 @@ use Rattle.definitions.specs.Collection.{In, here}
 use Rattle.definitions.specs.Collection as collection
 use Rattle.definitions.specs.Name.{Name}
 use Rattle.definitions.specs.Prop.{Prop}
-use Rattle.definitions.specs.Term.{Label, proposition, datatype}
+use Rattle.definitions.specs.Term.{Label, proposition}
 use Rattle.definitions.specs.TermMemory.{label_size, labels_size}
+use Rattle.reading_laws.proofs.LabelCode.{even_label}
 use Rattle.term_meaning.specs.Offsets.{BeginsAt, first, later}
 use Rattle.term_meaning.specs.Memory.{label_offset}
 
@@ -28,13 +29,8 @@ pub begins_in : {p : Prop Name} {at to : ℕ} {ls : List (Label Name)} → Begin
 begins_in first = here refl
 begins_in (later h) = collection.later (begins_in h)
 
-even_size : (l : Label Name) → label_size l % 2 ≡ 0
-unfolding label_size
-even_size (proposition p) = omega arith
-even_size (datatype t) = refl
-
 -- half an offset stands for the offset
 pub begins_even : {p : Prop Name} {at to : ℕ} {ls : List (Label Name)} → BeginsAt p at to ls → to % 2 ≡ 0 → label_offset (at / 2) ≡ at
 unfolding label_offset
 begins_even first e = omega arith
-begins_even (later {l = l} h) e = begins_even h (omega (arith, even_size l))
+begins_even (later {l = l} h) e = begins_even h (omega (arith, even_label l))

@@ -1,12 +1,10 @@
 -- The order of the forms says what the table of brackets says of strict text.
 use mathlib.Core.Path.{◌≡◌, refl}
-use mathlib.Core.Bool.{Bool, true, false, beq}
 use lib.Dec.{leb}
 use Rattle.definitions.specs.declared.Style.TheVariants.{Strict}
 use Rattle.definitions.specs.Name.{Name}
 use Rattle.definitions.specs.Term.{ProofTerm}
 use Rattle.definitions.specs.Display.{Form, closed, call, function, block, ascription, form, Position, function_of, argument_of, body_of, ascribed_by, part_of, within, brackets_of, is_strict, brackets, bracketed, wraps}
-use Rattle.definitions.specs.TermReader.{same}
 use Rattle.proof_term.specs.Forms.{as_form, rank}
 use Rattle.term_stack.specs.Forms.{least_form}
 
@@ -47,11 +45,3 @@ due_form within ascription = refl
 pub due_is : (p : Position) (a : ProofTerm Name) → wraps Strict p a ≡ leb (least_form p) (rank (as_form (form a)))
 unfolding wraps
 due_is p a = due_form p (form a)
-
--- brackets are those that are due where both tests agree
-pub same_is : (own asked : Bool) → beq own asked ≡ same own asked
-unfolding same
-same_is true true = refl
-same_is true false = refl
-same_is false true = refl
-same_is false false = refl

@@ -5,10 +5,11 @@ use Rattle.std.specs.Prelude.{Option, None, Some}
 use mathlib.Core.List.{List, [], ◌∷◌, ◌++◌}
 use native.Mathlib.Omega.{arith}
 use Rattle.definitions.specs.Name.{Name}
-use Rattle.definitions.specs.Term.{Label, proposition, datatype, ProofTerm, Ident, Pair, Named, Function, Application, LetIn, Case, TypeAscription, Unit, Sorry, annotation_count, is_labelled}
+use Rattle.definitions.specs.Term.{Label, ProofTerm, Ident, Pair, Named, Function, Application, LetIn, Case, TypeAscription, Unit, Sorry, annotation_count, is_labelled}
 use Rattle.definitions.specs.TermText.{nodes}
 use Rattle.definitions.specs.TermMemory.{label_size, labels_size, parameter_labels, store_label, store_labels}
 use Rattle.reading_laws.specs.Marks.{Mark, called, labelled, node, label_marks}
+use Rattle.reading_laws.proofs.LabelCode.{even_label}
 use Rattle.words.specs.Table.{added, number_in}
 use Rattle.words.proofs.Added.{met_added}
 use Rattle.term_stack.specs.Numbers.{labels_met, code_met}
@@ -45,11 +46,6 @@ unfolding code_met labels_met labels_size
 code_called ms x = code_both ms (called x ∷ []) ∙ omega arith
 
 -- codes have even sizes
-even_label : (l : Label Name) → label_size l % 2 ≡ 0
-unfolding label_size
-even_label (proposition p) = omega arith
-even_label (datatype t) = refl
-
 pub even_labels : (ls : List (Label Name)) → labels_size ls % 2 ≡ 0
 unfolding labels_size
 even_labels [] = refl

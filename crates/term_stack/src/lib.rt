@@ -102,7 +102,7 @@ impl Work {
 }
 
 // Goes on where the brackets of the term in hand are those that are due where forms are bracketed from `least` on.
-#[tactic(auto, using(crate::proofs::FormNumbers::same_is), unfolding(proof_term::specs::Forms::rank))]
+#[tactic(auto, using(reading_laws::proofs::PropTexts::same_is), unfolding(proof_term::specs::Forms::rank))]
 pub fn due(hand: Hand, least: Form) -> Option<()>
     ensures { MatchOption result (same hand.own (leb (rank least) (rank hand.form)) ≡ false)
         (λ u. same hand.own (leb (rank least) (rank hand.form)) ≡ true) }

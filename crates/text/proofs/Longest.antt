@@ -3,7 +3,7 @@ use Prim.Native.Nat.{ℕ, zero, suc, ◌+◌, ◌*◌, ◌≤◌, ◌<◌}
 use mathlib.Core.Path.{◌≡◌, refl, ap}
 use mathlib.Core.Bool.{Bool, true, false, cond}
 use Rattle.std.specs.Prelude.{Option, None, Some}
-use mathlib.Core.List.{List, [], ◌∷◌}
+use mathlib.Core.List.{List, []}
 use native.Mathlib.Omega.{arith}
 use lib.ListN.{length, get_or, length-append}
 use lib.Dec.{eqb}
@@ -15,6 +15,7 @@ use Rattle.definitions.specs.Sheet.{names, code_bytes, code_limit, name_of, step
 use Rattle.definitions.specs.Term.{Label, proposition, datatype, NamedFunction, fst, snd, inl, inr, abort, ProofTerm, Ident, Pair, Named, Function, Application, LetIn, Case, TypeAscription, Unit, Sorry, of_label, of_labels, rename_label, rename_parameter_label, rename_term}
 use Rattle.definitions.specs.Display.{Position, function_of, argument_of, body_of, ascribed_by, part_of, within, wrap, wraps, display_label, display_parameter_label, function_text, display_term}
 use Rattle.definitions.specs.TermText.{node_limit, nodes}
+use Rattle.definitions.proofs.SignLengths.{wrap_most}
 use Rattle.reading_laws.proofs.SheetLimits.{sheet_limited}
 use Rattle.prefix_code.specs.PropAt.{prop_at}
 use Rattle.prefix_code.proofs.Reading.{inside}
@@ -32,12 +33,6 @@ use Rattle.sheet_term.specs.Held.{LabelStands, HeldTerm}
 use Rattle.text.specs.Declaring.{sheet_vocabulary, term_of, EndsKnown}
 use Rattle.text.proofs.Labels.{label_known, names_are}
 use Rattle.text.proofs.Heading.{named_term_lem}
-
--- brackets are two bytes
-wrap_most : (b : Bool) (t : List ℕ) → length (wrap b t) ≤ 2 + length t
-unfolding wrap
-wrap_most true t = omega (arith, length-append t (41 ∷ []))
-wrap_most false t = omega arith
 
 function_most : (f : NamedFunction) → length (function_text f) ≤ 6
 unfolding function_text
