@@ -1,6 +1,6 @@
 -- Behind a colon: the label is read, and the record of the ascription is made over the term in hand.
 use Prim.Native.Nat.{ℕ, ◌+◌, ◌-◌, max, ◌<◌, ◌≤◌}
-use mathlib.Core.Path.{◌≡◌, refl}
+use mathlib.Core.Path.{◌≡◌, refl, subst}
 use mathlib.Core.Bool.{true, false}
 use Rattle.std.specs.Prelude.{Option, None, Some}
 use mathlib.Core.List.{List, [], ◌∷◌, ◌++◌, append_assoc, append-nil}
@@ -10,6 +10,7 @@ use lib.Dec.{leb}
 use Rattle.definitions.specs.declared.Style.TheVariants.{Strict}
 use Rattle.definitions.specs.Utf8.{utf8}
 use Rattle.definitions.specs.Name.{Name}
+use Rattle.definitions.specs.Code.{Read}
 use Rattle.definitions.specs.Term.{Label, ProofTerm, TypeAscription, annotation_count}
 use Rattle.definitions.specs.Display.{form, ascribed_by, wraps}
 use Rattle.definitions.specs.TermText.{term_nesting, label_names}
@@ -20,7 +21,7 @@ use Rattle.reading_laws.specs.Marks.{labelled, node, marks, entries_marks, met, 
 use Rattle.reading_laws.proofs.Entries.{hand_nesting}
 use Rattle.reading_laws.proofs.OnTheWay.{Fits}
 use Rattle.reading_laws.proofs.Turns.{Next, next_then}
-use Rattle.words.specs.declared.NameTable.{NameTable}
+use Rattle.words.specs.declared.name_table.NameTable.{NameTable}
 use Rattle.words.specs.Places.{Expected}
 use Rattle.words.specs.Table.{table_names}
 use Rattle.atom_reader.proofs.Readings.{gives_from}
@@ -77,19 +78,20 @@ comes_last held bare = comes_as (comes_chain held) (rw bare)
 
 module _ {z : Scene} {work : Work} {s : Progress} {h : Hand} (held : AtTerm holding h z work s) {at : ℕ} (bare : argument_follows (drop s.at z.text) ≡ false)
     (colon : Expected (utf8 ": ") z.text s.at at) where
+  of_text : z.names.text.now ≡ z.text
+  of_text = held.behind.stored.of_text
+
   comes_label : Comes z.types z.text
       (if_due held.term.own (wraps Strict ascribed_by held.term.shown) (and_then (label z.types prop_levels (drop at z.text)) (ascription held.entries held.term)))
   comes_label = reads_on (expect (utf8 ": ") (drop s.at z.text)) _ _ tt _ (comes_last held bare) colon.reads
 
   -- a label may begin there
-  pub label_begins : LabelBegins z.text at z.names s.to
+  pub label_begins : LabelBegins at z.names s.to
   unfolding code_met
   label_begins =
       let b = held.behind in
       record {
-        short = b.reached.short;
-        within = colon.within;
-        table = b.stored.table;
+        within = rw of_text colon.within;
         even = rw b.stored.to_is (even_labels (labels_met (entries_marks held.entries ++ marks held.term.shown)));
         near = let n = b.placed.near in let on = colon.after in omega (arith, n, on);
       }
@@ -105,17 +107,17 @@ module _ {z : Scene} {work : Work} {s : Progress} {h : Hand} (held : AtTerm hold
     comes_due = as_due _ _ _ comes_label (due_at ascribed_by held.behind.hand due)
 
     -- no label stands there, or one past the limits
-    pub no_label : {after : NameTable} {code' : List ℕ} → LabelAnswer z.text at z.types z.names z.code s.to after code' None → Refuses z
+    pub no_label : {after : NameTable} {code' : List ℕ} → LabelAnswer at z.types z.names z.code s.to after code' None → Refuses z
     unfolding Next met marks standing
     no_label answer =
         unfit comes_due
-        (next_then (λ τ. Fits τ → ⊥) (λ l v. fits_label (table_names z.names z.text) l ≡ false) (label z.types prop_levels (drop at z.text)) _
-        (gives_from _ _ answer.answer) λ l v unfit-label.
+        (next_then (λ τ. Fits τ → ⊥) (λ l v. fits_label (table_names z.names) l ≡ false) (label z.types prop_levels (drop at z.text)) _
+        (gives_from _ _ (subst (λ t. (x : Read (Label Name)) → label z.types prop_levels (drop at t) ≡ Some x → fits_label (table_names z.names) x.value ≡ false) of_text answer.answer)) λ l v unfit-label.
         label_unfit held.behind.stored l unfit-label (giving held.entries (standing false (TypeAscription held.term.shown l)) v)
         (record { more = node ∷ []; is = simp append_assoc }))
 
-    module _ {after : NameTable} {code' : List ℕ} {r : LabelRead numbered.Label} (answer : LabelAnswer z.text at z.types z.names z.code s.to after code' (Some r)) where
-      label_grows : {l : Label Name} → LabelGiven z.text at z.types z.names z.code s.to after code' r l
+    module _ {after : NameTable} {code' : List ℕ} {r : LabelRead numbered.Label} (answer : LabelAnswer at z.types z.names z.code s.to after code' (Some r)) where
+      label_grows : {l : Label Name} → LabelGiven at z.types z.names z.code s.to after code' r l
           → Grows held.entries (TypeAscription held.term.shown l) (noting z after code') work (further s r.end r.to)
           (node_row (made.TypeAscription (s.used - 1) r.label) (1 + h.tally)) (over Ascription 0 1 h)
       unfolding noting names_met nodes_met limited_met code_met labels_met term_records records_after marks form as_form term_nesting annotation_count node_row root_after seven
@@ -131,7 +133,7 @@ module _ {z : Scene} {work : Work} {s : Progress} {h : Hand} (held : AtTerm hold
           let tally = b.hand.tally in
           let counted : 1 + h.tally ≡ 1 + annotation_count a = omega (arith, tally) in
           record {
-            placed = record { within = given.within; near = omega (arith, near, before, on) };
+            placed = record { within = rw of_text at given.within; near = omega (arith, near, before, on) };
             deep = b.deep;
             met = ms ++ (labelled l ∷ []);
             records = λ number. term_records number k a;
@@ -158,7 +160,7 @@ module _ {z : Scene} {work : Work} {s : Progress} {h : Hand} (held : AtTerm hold
       unfolding noting met hand_nesting standing
       ascription_not why =
           let (l, given) = answer.answer in
-          grown_not (label_grows given) giving (goes_on (label z.types prop_levels (drop at z.text)) _ l _ comes_due given.reads) refl refl why
+          grown_not (label_grows given) giving (goes_on (label z.types prop_levels (drop at z.text)) _ l _ comes_due (rw of_text at given.reads)) refl refl why
 
       -- the term and its label are whole
       pub ascription_turned : {work' : Work} {t : Progress}
@@ -170,6 +172,6 @@ module _ {z : Scene} {work : Work} {s : Progress} {h : Hand} (held : AtTerm hold
           let from = given.from in
           let on = colon.after in
           record {
-            there = grown_to (label_grows given) giving (goes_on (label z.types prop_levels (drop at z.text)) _ l _ comes_due given.reads) refl refl m;
-            less = rw m.is (omega (arith, from, on, given.within));
+            there = grown_to (label_grows given) giving (goes_on (label z.types prop_levels (drop at z.text)) _ l _ comes_due (rw of_text at given.reads)) refl refl m;
+            less = let within = rw of_text at given.within in rw m.is (omega (arith, from, on, within));
           }

@@ -47,7 +47,7 @@ module _ {z : Scene} {work : Work} {s : Progress} {h : Hand} {m n : ℕ} where
       undue for_let g = not_due _ _ _ g.comes (due_at within g.hand d)
 
   names_are : {k : List Entry} {x y : Name} {a : Shown (ProofTerm Name)} → GivesTo k (let_head x y) a z work s h (LetHead m n)
-      → (number : Name → ℕ) → Extends number (table_names z.names z.text) → (m ≡ number x) × (n ≡ number y)
+      → (number : Name → ℕ) → Extends number (table_names z.names) → (m ≡ number x) × (n ≡ number y)
   unfolding entry_after
   names_are g number i = let top = g.top number i in (cc, cc)
 

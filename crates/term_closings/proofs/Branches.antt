@@ -1,5 +1,5 @@
 -- What stands before the branch of a case, and the entry that waits for the branch.
-use Prim.Native.Nat.{ℕ, ◌-◌, ◌<◌, ◌≤◌}
+use Prim.Native.Nat.{ℕ, ◌-◌, ◌≤◌}
 use mathlib.Core.Path.{◌≡◌, refl, sym, ap}
 use mathlib.Core.Bool.{true, false}
 use Rattle.std.specs.Prelude.{Option, None, Some, MatchOption}
@@ -11,7 +11,6 @@ use Rattle.definitions.specs.declared.Style.TheVariants.{Strict}
 use Rattle.definitions.specs.Utf8.{utf8}
 use Rattle.definitions.specs.Name.{Name}
 use Rattle.definitions.specs.Code.{Read, Reading, yield, followed_by, ◌>>=◌}
-use Rattle.definitions.specs.Sheet.{name_limit}
 use Rattle.definitions.specs.Term.{ProofTerm}
 use Rattle.definitions.specs.Display.{within, wraps}
 use Rattle.definitions.specs.TermReader.{Shown, same, name, expect}
@@ -22,9 +21,10 @@ use Rattle.reading_laws.proofs.MarksMet.{begins_all, begins_as}
 use Rattle.reading_laws.proofs.OnTheWay.{Fits}
 use Rattle.reading_laws.proofs.TermConventions.{gives_yield, gives_none, gives_then}
 use Rattle.reading_laws.proofs.Turns.{Next, next_then}
-use Rattle.words.specs.declared.NameTable.{NameTable}
+use Rattle.words.specs.declared.name_table.NameTable.{NameTable}
 use Rattle.words.specs.Places.{Expected}
-use Rattle.words.specs.Table.{added, table_names}
+use Rattle.words.specs.Names.{added}
+use Rattle.words.specs.Table.{table_names}
 use Rattle.prop_parts.specs.declared.NameRead.{NameRead}
 use Rattle.atom_reader.specs.Scope.{Crowded}
 use Rattle.atom_reader.proofs.Readings.{gives_from, gives_any}
@@ -61,7 +61,7 @@ branch_no_name what text held at lacks =
     gives_then _ _ (expect what (drop at text)) _
     (gives_from (expect what (drop at text)) (λ u t. expect what (drop at text) ≡ given u t) (λ x e. e)) λ u t front.
     gives_then _ _ (name t) _
-    (gives_from (name t) (λ x rest. Crowded (table_names held text) (x ∷ [])) (λ r e. lacks t r.value r.rest front e)) λ x rest crowded.
+    (gives_from (name t) (λ x rest. Crowded (table_names held) (x ∷ [])) (λ r e. lacks t r.value r.rest front e)) λ x rest crowded.
     gives_then _ _ (expect (utf8 " => ") rest) _ (gives_any _) λ u v i.
     gives_yield _ x v crowded
 
@@ -84,12 +84,6 @@ module _ {what text : List ℕ} {at : ℕ} (held : NameTable) {after : NameTable
       below = there.below;
     },
   )
-
--- the number of a branch's name
-pub branch_small : {what text : List ℕ} {at : ℕ} {held after : NameTable} {r : NameRead} {x : Name}
-    → BranchGiven what text at held after r x → r.number < 512
-unfolding name_limit
-branch_small given = omega (arith, given.below, given.noted.table.few)
 
 -- a reading in two steps
 then_on : {A B : Type 0} (m : Option (Read A)) (first : A → Reading B) (next : B → List ℕ → Option State) (both : A → List ℕ → Option State)
@@ -191,17 +185,17 @@ module _ {z : Scene} {work : Work} {s : Progress} {h : Hand} {what : List ℕ} {
     branch_stuck lacks =
         let ms = (entries_marks k ++ entry_marks entry) ++ marks a.shown in
         unfit comes_due
-        (next_then (λ τ. Fits τ → ⊥) (λ x t. Crowded (table_names z.names z.text) (x ∷ [])) (branch what (drop s.at z.text)) _ lacks λ x t crowded.
+        (next_then (λ τ. Fits τ → ⊥) (λ x t. Crowded (table_names z.names) (x ∷ [])) (branch what (drop s.at z.text)) _ lacks λ x t crowded.
         too_many_names (ms ++ (called x ∷ [])) (reading (b.waits x ∷ k) t)
         (crowded_met (called x ∷ []) g.stored crowded)
         (begins_as (begins_all _) (sym (b.is.marks_are x))))
 
     module _ {after : NameTable} {r : NameRead} {x : Name} (given : BranchGiven what z.text s.at z.names after r x) where
       -- the numbers of the names are those of the names before
-      number_then : (number : Name → ℕ) → Extends number (table_names after z.text) → Extends number (table_names z.names z.text) × (r.number ≡ number x)
+      number_then : (number : Name → ℕ) → Extends number (table_names after) → Extends number (table_names z.names) × (r.number ≡ number x)
       unfolding added
       number_then number extends =
-          let seen = table_names z.names z.text in
+          let seen = table_names z.names in
           (extends_fewer seen (x ∷ []) (rw given.noted.names at extends), number_noted x seen [] _ number given.noted.names given.number_is extends)
 
       module _ {w : Part} (is : w ≡ record { root = s.used - 1; nest = h.nest; tally = h.tally }) where

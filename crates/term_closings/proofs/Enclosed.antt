@@ -13,7 +13,8 @@ use Rattle.definitions.specs.TermReader.{Shown, standing, same, expect, if_read}
 use Rattle.reading_laws.specs.TermMachine.{Purpose, Entry, in_bracket, second, State, reading, and_then, used, give}
 use Rattle.reading_laws.specs.Marks.{marks, purpose_marks, entry_marks, entries_marks}
 use Rattle.words.specs.Places.{Expected}
-use Rattle.words.specs.Table.{number_in, table_names}
+use Rattle.words.specs.Names.{number_in}
+use Rattle.words.specs.Table.{table_names}
 use Rattle.term_stack.specs.declared.Progress.{Progress}
 use Rattle.term_stack.specs.declared.Hand.{Hand}
 use Rattle.term_stack.specs.declared.Part.{Part}
@@ -62,7 +63,7 @@ module _ {z : Scene} {work : Work} {s : Progress} {h : Hand} {q : reader.Purpose
 
   purpose_is : {k : List Entry} {p : Purpose} {a : Shown (ProofTerm Name)} → GivesTo k (in_bracket p) a z work s h (Bracket q) → q ≡ purpose_after (entries_marks k) p
   unfolding entry_after
-  purpose_is g = let seen = table_names z.names z.text in let top = g.top (number_in seen) (extends_itself seen) in cc
+  purpose_is g = let seen = table_names z.names in let top = g.top (number_in seen) (extends_itself seen) in cc
 
   module _ (bare : h.own ≡ false) where
     comes_bare : {k : List Entry} {p : Purpose} {a : Shown (ProofTerm Name)} → GivesTo k (in_bracket p) a z work s h (Bracket q)

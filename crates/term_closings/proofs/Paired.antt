@@ -21,7 +21,8 @@ use Rattle.reading_laws.proofs.MarksMet.{begins_all, after_used}
 use Rattle.reading_laws.proofs.OnTheWay.{Fits, nodes_both, nodes_met_lem}
 use Rattle.reading_laws.proofs.Turns.{Next, next_due}
 use Rattle.words.specs.Places.{Expected}
-use Rattle.words.specs.Table.{number_in, table_names}
+use Rattle.words.specs.Names.{number_in}
+use Rattle.words.specs.Table.{table_names}
 use Rattle.proof_term.specs.declared.nodes.Node.TheVariants as made
 use Rattle.term_stack.specs.declared.Progress.{Progress}
 use Rattle.proof_term.specs.declared.forms.Form.TheVariants.{Closed}
@@ -69,11 +70,11 @@ module _ {z : Scene} {work : Work} {s : Progress} {h : Hand} {q : reader.Purpose
   module _ {k : List Entry} {p : Purpose} {b : ProofTerm Name} {a : Shown (ProofTerm Name)} (g : GivesTo k (second p b) a z work s h (Second q f)) where
     purpose_is : q ≡ purpose_after (entries_marks k) p
     unfolding entry_after
-    purpose_is = let seen = table_names z.names z.text in let top = g.top (number_in seen) (extends_itself seen) in cc
+    purpose_is = let seen = table_names z.names in let top = g.top (number_in seen) (extends_itself seen) in cc
 
     first_is : f ≡ part_after (entries_marks k ++ purpose_marks p) b
     unfolding entry_after
-    first_is = let seen = table_names z.names z.text in let top = g.top (number_in seen) (extends_itself seen) in cc
+    first_is = let seen = table_names z.names in let top = g.top (number_in seen) (extends_itself seen) in cc
 
     nest_is : f.nest ≡ term_nesting b
     unfolding part_after

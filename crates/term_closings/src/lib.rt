@@ -5,10 +5,8 @@ ghost use Rattle.std.specs.Prelude.{true, false, ◌≡◌, ◌<◌, ◌≤◌, 
 ghost use Rattle.definitions.specs.Name.{Name};
 ghost use Rattle.definitions.specs.Utf8.{utf8};
 ghost use Rattle.definitions.specs.TermReader.{argument_follows};
-ghost use Rattle.definitions.specs.TermText.{term_text_limit};
 ghost use Rattle.reading_laws.specs.TermMachine.{holding, giving};
 ghost use Rattle.words.specs.Places.{Expected};
-ghost use Rattle.words.specs.Table.{Table};
 ghost use Rattle.term_stack.specs.Standing.{AtTerm};
 ghost use Rattle.term_stack.specs.Turning.{TurnBegins, TurnEnds};
 ghost use Rattle.term_openings.specs.Beginning.{TextBegins, TextEnds, NamesBegin, NamesEnd};
@@ -85,28 +83,27 @@ fn give_let(text: &[u8], work: &mut Work, s: Progress, hand: Hand, x: u16, y: u1
 }
 
 // What stands before the branch of a case: this word, a name and an arrow. The branch begins at the end of what was read.
-fn read_branch(text: &[u8], at: usize, word: &[u8], names: &mut NameTable) -> Option<NameRead>
-    requires { Table names.old text.now
-        × (at ≤ length text.now) × (length text.now ≤ term_text_limit) }
-    ensures { MatchOption result (BranchLacks word.now text.now at names.old)
-        (λ r. (x : Name) × BranchGiven word.now text.now at names.old names.new r x) }
+fn read_branch(names: &mut NameTable, at: usize, word: &[u8]) -> Option<NameRead>
+    requires { at ≤ length names.old.text.now }
+    ensures { MatchOption result (BranchLacks word.now names.old.text.now at names.old)
+        (λ r. (x : Name) × BranchGiven word.now names.old.text.now at names.old names.new r x) }
 {
-    let name = name_after(text, at, word, names)?;
+    let text = names.text;
+    let name = name_after(names, at, word)?;
     let end = expect(text, name.end, b" => ")?;
     Some(NameRead { end, ..name })
 }
 
 // The head of a case is in hand or, where the head and the name behind it wait, its first branch: then the branch that follows.
 fn give_branch(
-    text: &[u8],
     names: &mut NameTable,
     work: &mut Work,
     s: Progress,
     hand: Hand,
     before: Option<(Part, u16)>,
 ) -> Option<State>
-    requires { NamesBegin (AtEntry hand (branch_entry before)) text.now names.old work.old s }
-    ensures { NamesEnd (AtEntry hand (branch_entry before)) 2 text.now names.old work.old s
+    requires { NamesBegin (AtEntry hand (branch_entry before)) names.old work.old s }
+    ensures { NamesEnd (AtEntry hand (branch_entry before)) 2 names.old work.old s
         names.new work.new result }
 {
     due(hand, NO_ASCRIPTION)?;
@@ -114,32 +111,25 @@ fn give_branch(
         None => b" of inl ".as_slice(),
         Some(_) => b", inr ".as_slice(),
     };
-    let branch = read_branch(text, s.at, word, names)?;
+    let branch = read_branch(names, s.at, word)?;
     let behind = Progress {
         at: branch.end,
         ..s
     };
     let part = waiting(s, hand);
-    let name = branch.number as u16;
     let entry = match before {
-        None => Entry::CaseFirst(part, name),
-        Some((head, x)) => Entry::CaseSecond(head, x, part, name),
+        None => Entry::CaseFirst(part, branch.number),
+        Some((head, x)) => Entry::CaseSecond(head, x, part, branch.number),
     };
     enter(work, behind, entry)
 }
 
 // A whole term is in hand: takes the entry on top off the stack, and does what it waits for.
-pub fn give(
-    text: &[u8],
-    names: &mut NameTable,
-    work: &mut Work,
-    s: Progress,
-    hand: Hand,
-) -> Option<State>
-    requires { NamesBegin (AtTerm giving hand) text.now names.old work.old s × (0 < s.depth) }
-    ensures { NamesEnd (AtTerm giving hand) 0 text.now names.old work.old s
-        names.new work.new result }
+pub fn give(names: &mut NameTable, work: &mut Work, s: Progress, hand: Hand) -> Option<State>
+    requires { NamesBegin (AtTerm giving hand) names.old work.old s × (0 < s.depth) }
+    ensures { NamesEnd (AtTerm giving hand) 0 names.old work.old s names.new work.new result }
 {
+    let text = names.text;
     let below = Progress {
         depth: s.depth - 1,
         ..s
@@ -149,8 +139,8 @@ pub fn give(
         Entry::Bracket(p) => give_bracket(text, work, below, hand, p),
         Entry::Second(p, first) => give_second(text, work, below, hand, p, first),
         Entry::FunctionBody { name, label } => close_function(work, below, hand, name, label),
-        Entry::CaseHead => give_branch(text, names, work, below, hand, None),
-        Entry::CaseFirst(head, x) => give_branch(text, names, work, below, hand, Some((head, x))),
+        Entry::CaseHead => give_branch(names, work, below, hand, None),
+        Entry::CaseFirst(head, x) => give_branch(names, work, below, hand, Some((head, x))),
         Entry::CaseSecond(head, x, left, y) => close_case(work, below, hand, head, x, left, y),
         Entry::LetHead(x, y) => give_let(text, work, below, hand, x, y),
         Entry::LetBody(x, y, head) => close_let(work, below, hand, x, y, head),
@@ -159,7 +149,6 @@ pub fn give(
 
 // A label follows at `at`, behind a colon: the term in hand is ascribed by it.
 fn ascribe(
-    text: &[u8],
     types: &[u8],
     names: &mut NameTable,
     code: &mut [u8],
@@ -168,15 +157,14 @@ fn ascribe(
     hand: Hand,
     at: usize,
 ) -> Option<State>
-    requires { TurnBegins (AtTerm holding hand) types.now text.now names.old code.old work.old s
-        × (argument_follows (drop s.at text.now) ≡ false)
-        × Expected (utf8 ": ") text.now s.at at }
-    ensures { TurnEnds (AtTerm holding hand) 1 types.now text.now
-        names.old code.old work.old s
+    requires { TurnBegins (AtTerm holding hand) types.now names.old code.old work.old s
+        × (argument_follows (drop s.at names.old.text.now) ≡ false)
+        × Expected (utf8 ": ") names.old.text.now s.at at }
+    ensures { TurnEnds (AtTerm holding hand) 1 types.now names.old code.old work.old s
         names.new code.new work.new result }
 {
     due(hand, NO_FUNCTION)?;
-    let read = read_label(text, at, types, names, code, s.to)?;
+    let read = read_label(names, at, types, code, s.to)?;
     let behind = Progress {
         at: read.end,
         to: read.to,
@@ -192,33 +180,19 @@ fn ascribe(
 }
 
 // An argument follows: a closed term, to which the term in hand is applied.
-fn argument(
-    text: &[u8],
-    names: &mut NameTable,
-    work: &mut Work,
-    s: Progress,
-    hand: Hand,
-) -> Option<State>
-    requires { NamesBegin (AtTerm holding hand) text.now names.old work.old s
-        × (argument_follows (drop s.at text.now) ≡ true) }
-    ensures { NamesEnd (AtTerm holding hand) 0 text.now names.old work.old s
-        names.new work.new result }
+fn argument(names: &mut NameTable, work: &mut Work, s: Progress, hand: Hand) -> Option<State>
+    requires { NamesBegin (AtTerm holding hand) names.old work.old s
+        × (argument_follows (drop s.at names.old.text.now) ≡ true) }
+    ensures { NamesEnd (AtTerm holding hand) 0 names.old work.old s names.new work.new result }
 {
     due(hand, NO_FUNCTION)?;
-    let start = expect(text, s.at, b" ")?;
+    let start = expect(names.text, s.at, b" ")?;
     let behind = Progress { at: start, ..s };
-    closed_for(
-        text,
-        names,
-        work,
-        behind,
-        Purpose::Argument(waiting(s, hand)),
-    )
+    closed_for(names, work, behind, Purpose::Argument(waiting(s, hand)))
 }
 
 // A term is in hand to which more may belong: an argument, a label, or neither.
 pub fn chain(
-    text: &[u8],
     types: &[u8],
     names: &mut NameTable,
     code: &mut [u8],
@@ -226,16 +200,15 @@ pub fn chain(
     s: Progress,
     hand: Hand,
 ) -> Option<State>
-    requires { TurnBegins (AtTerm holding hand) types.now text.now names.old code.old work.old s }
-    ensures { TurnEnds (AtTerm holding hand) 1 types.now text.now
-        names.old code.old work.old s
+    requires { TurnBegins (AtTerm holding hand) types.now names.old code.old work.old s }
+    ensures { TurnEnds (AtTerm holding hand) 1 types.now names.old code.old work.old s
         names.new code.new work.new result }
 {
-    if argument_follows(text, s.at) {
-        return argument(text, names, work, s, hand);
+    if argument_follows(names.text, s.at) {
+        return argument(names, work, s, hand);
     }
-    if let Some(label) = expect(text, s.at, b": ") {
-        return ascribe(text, types, names, code, work, s, hand, label);
+    if let Some(label) = expect(names.text, s.at, b": ") {
+        return ascribe(types, names, code, work, s, hand, label);
     }
     Some(State::Giving(s, hand))
 }

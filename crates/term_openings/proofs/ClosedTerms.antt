@@ -19,9 +19,10 @@ use Rattle.reading_laws.specs.TermMachine as machine
 use Rattle.reading_laws.specs.TermMachine.{Entry, in_bracket, State, reading, and_then, used, closed_for}
 use Rattle.reading_laws.specs.Marks.{Mark, called, node, marks, purpose_marks, entry_marks, entries_marks, names_met}
 use Rattle.reading_laws.proofs.MarksMet.{begins_by, begins_all, after_used}
-use Rattle.words.specs.declared.NameTable.{NameTable}
+use Rattle.words.specs.declared.name_table.NameTable.{NameTable}
 use Rattle.words.specs.Places.{between, WordEnds, NameEnds, Expected}
-use Rattle.words.specs.Table.{add_name, added, number_in, table_names, NamePlace, TooMany, NumberOf}
+use Rattle.words.specs.Names.{add_name, added, number_in, NamePlace}
+use Rattle.words.specs.Table.{table_names, TooMany, NumberOf}
 use Rattle.words.proofs.Added.{met_added}
 use Rattle.words.proofs.Words.{between_length, sorry_word_lem, other_word}
 use Rattle.atom_reader.proofs.Scopes.{added_one_meets}
@@ -95,7 +96,7 @@ module _ {z : Scene} {work : Work} {s : Progress} {q : Purpose} (c : Closed z wo
   placed_at end from within = record { within = within; near = let n = c.for.placed.near in omega (arith, n, from) }
 
   pub name_place : {end : ℕ} → NameEnds z.text s.at end → NamePlace z.text s.at end
-  name_place ends = record { short = c.for.comes.reached.short; some = ends.from; few = ends.short; within = ends.within }
+  name_place ends = record { some = ends.from; few = ends.short; within = ends.within }
 
   -- a name
   module _ {end : ℕ} (ends : NameEnds z.text s.at end) where
@@ -104,7 +105,7 @@ module _ {z : Scene} {work : Work} {s : Progress} {q : Purpose} (c : Closed z wo
     name_comes = reads_on (name (drop s.at z.text)) _ _ (between s.at end z.text) (drop end z.text) c.for.comes ends.reads
 
     -- is one too many
-    pub name_full : TooMany (between s.at end z.text) z.text z.names → Refuses z
+    pub name_full : TooMany (between s.at end z.text) z.names → Refuses z
     unfolding standing marks names_met added
     name_full h =
         let x = between s.at end z.text in
@@ -114,7 +115,7 @@ module _ {z : Scene} {work : Work} {s : Progress} {q : Purpose} (c : Closed z wo
         (after_used ms c.entries c.purpose (standing false (Ident x)) (drop end z.text)
         (begins_by ms (node ∷ []) (begins_all ms) (simp append_assoc))))
 
-    pub name_leaf : {after : NameTable} {n : ℕ} → NumberOf (between s.at end z.text) z.text z.names after n
+    pub name_leaf : {after : NameTable} {n : ℕ} → NumberOf (between s.at end z.text) z.names after n
         → Leaf (noting z after z.code) work (further s end s.to) (made.Ident n) q
     unfolding noting standing marks records_after added form term_nesting annotation_count node_row seven
     name_leaf {n = n} number =
@@ -130,7 +131,7 @@ module _ {z : Scene} {work : Work} {s : Progress} {q : Purpose} (c : Closed z wo
           purpose_is = c.for.purpose_is;
           stored = stored_as (stored_name x c.for.stored number.noted) (append_assoc (entries_marks c.entries) (purpose_marks c.purpose) (called x ∷ [])) (λ numbers. refl);
           marks_are = refl;
-          row_is = λ numbers e. let is = number_noted x (table_names z.names z.text) [] _ numbers number.noted.names number.number_is e in rw is refl;
+          row_is = λ numbers e. let is = number_noted x (table_names z.names) [] _ numbers number.noted.names number.number_is e in rw is refl;
           form_is = refl;
           nest_is = refl;
           tally_is = refl;

@@ -1,6 +1,6 @@
 -- What follows the first word of a term, piece by piece: the machine goes on to an entry or to a closed term, or there is no term.
 use Prim.Native.Nat.{ℕ, ◌+◌, ◌<◌}
-use mathlib.Core.Path.{◌≡◌, refl, sym, ap, ◌∙◌}
+use mathlib.Core.Path.{◌≡◌, refl, sym, ap, ◌∙◌, subst}
 use Rattle.std.specs.Prelude.{Option, None, Some, MatchOption}
 use mathlib.Core.List.{List, [], ◌∷◌, ◌++◌, append_assoc, append-nil}
 use native.Mathlib.Omega.{arith}
@@ -15,9 +15,10 @@ use Rattle.reading_laws.specs.TermMachine.{as_body, Entry, case_head, let_head, 
 use Rattle.reading_laws.specs.Marks.{Mark, called, purpose_marks, entry_marks, entries_marks, met, names_met}
 use Rattle.reading_laws.proofs.OnTheWay.{Fits}
 use Rattle.reading_laws.proofs.Turns.{Next, next_then, next_after}
-use Rattle.words.specs.declared.NameTable.{NameTable}
+use Rattle.words.specs.declared.name_table.NameTable.{NameTable}
 use Rattle.words.specs.Places.{between, Expected}
-use Rattle.words.specs.Table.{added, table_names}
+use Rattle.words.specs.Names.{added}
+use Rattle.words.specs.Table.{table_names}
 use Rattle.prop_parts.specs.declared.NameRead as reader
 use Rattle.prop_parts.specs.Found.{NameLacks, NameGiven}
 use Rattle.atom_reader.specs.Scope.{Crowded}
@@ -89,13 +90,16 @@ module _ {z : Scene} {work : Work} {s : Progress} {function : program.NamedFunct
 pub bytes_not : (what text : List ℕ) (held : NameTable) (at : ℕ) → expect what (drop at text) ≡ None → NameLacksAfter what text at held
 bytes_not what text held at e = λ t x rest front there. absurd (none-some _ (sym e ∙ front))
 
-module _ {what text : List ℕ} {at start : ℕ} (held : NameTable) (expected : Expected what text at start) where
-  name_lacks : NameLacks text start held → NameLacksAfter what text at held
+module _ {what : List ℕ} {at start : ℕ} (held : NameTable) (expected : Expected what held.text.now at start) where
+  abbrev text : List ℕ
+  text = held.text.now
+
+  name_lacks : NameLacks start held → NameLacksAfter what text at held
   name_lacks lacks t x rest before there =
       let same : t ≡ drop start text = ap (λ (r : Read (Prim.Unit {0})). r.rest) (same_Some _ _ (sym before ∙ expected.reads)) in
       lacks (record { value = x; rest = rest }) (rw same at there)
 
-  name_there : {after : NameTable} {r : reader.NameRead} → NameGiven text start held after r → ThereIs (NameThere what text at held after r)
+  name_there : {after : NameTable} {r : reader.NameRead} → NameGiven start held after r → ThereIs (NameThere what text at held after r)
   name_there {r = r} read =
       let place : start ≡ at + length what = expected.after in
       record {
@@ -111,7 +115,7 @@ module _ {what text : List ℕ} {at start : ℕ} (held : NameTable) (expected : 
         };
       }
 
-  pub name_after : (after : NameTable) (r : Option reader.NameRead) → MatchOption r (NameLacks text start held) (NameGiven text start held after)
+  pub name_after : (after : NameTable) (r : Option reader.NameRead) → MatchOption r (NameLacks start held) (NameGiven start held after)
       → MatchOption r (NameLacksAfter what text at held) (λ r. ThereIs (NameThere what text at held after r))
   name_after after None lacks = name_lacks lacks
   name_after after (Some r) read = name_there read
@@ -125,7 +129,7 @@ module _ (what : List ℕ) {text : List ℕ} (held : NameTable) (at : ℕ) {type
       (goes_on (expect what (drop at text)) (λ u t. and_then (name t) next) tt (drop (at + length what) text) comes there.expected) there.reads
 
   pub name_not : NameLacksAfter what text at held
-      → ((x : Name) (rest : List ℕ) → Crowded (table_names held text) (x ∷ []) → Next (λ τ. Fits τ → ⊥) (next x rest))
+      → ((x : Name) (rest : List ℕ) → Crowded (table_names held) (x ∷ []) → Next (λ τ. Fits τ → ⊥) (next x rest))
       → read_answer types text ≡ refuse 20 0
   unfolding added
   name_not lacks too_many =
@@ -137,7 +141,7 @@ module _ (what : List ℕ) {text : List ℕ} (held : NameTable) (at : ℕ) {type
 
 -- an entry with too many names
 pub entry_crowded : {ms : List Mark} {records : (Name → ℕ) → List ℕ} {stack : (Name → ℕ) → List stacked.Entry} {z : Scene} {work : Work} {used depth to : ℕ}
-    → Stored ms records stack z work used depth to → (more others : List Mark) → Crowded (table_names z.names z.text) (names_met more)
+    → Stored ms records stack z work used depth to → (more others : List Mark) → Crowded (table_names z.names) (names_met more)
     → (k : List Entry) (entry : Entry) (rest : List ℕ) → entries_marks (entry ∷ k) ≡ (ms ++ more) ++ others → Fits (reading (entry ∷ k) rest) → ⊥
 unfolding met
 entry_crowded {ms} st more others h k entry rest e =
@@ -170,20 +174,27 @@ module _ {z : Scene} {work : Work} {s : Progress} (c : Started let_word z work s
         (noting z after z.code) work s.used s.depth s.to
     named_once = stored_name x c.stored one.holds.noted
 
-    pub second_not : NameLacksAfter (utf8 ", ") z.text first.end after → Refuses z
+    -- the second name is read of the same text
+    same_text : after.text.now ≡ z.text
+    same_text = one.holds.noted.same_text ∙ c.stored.of_text
+
+    pub second_not : NameLacksAfter (utf8 ", ") after.text.now first.end after → Refuses z
     unfolding let_rest noting Next entries_marks entry_marks names_met added
     second_not lacks =
-        name_not (utf8 ", ") after first.end (let_rest c.entries x) first_comes lacks λ y rest crowded.
+        name_not (utf8 ", ") after first.end (let_rest c.entries x) first_comes (subst (λ t. NameLacksAfter (utf8 ", ") t first.end after) same_text lacks) λ y rest crowded.
         next_after (λ τ. Fits τ → ⊥) (utf8 ") = ") rest _ λ s₁ e₁.
         entry_crowded named_once (called y ∷ []) [] crowded c.entries (let_head x y) s₁
         (sym (append-nil ((entries_marks c.entries ++ (called x ∷ [])) ++ (called y ∷ [])) ∙ append_assoc (entries_marks c.entries) (called x ∷ []) (called y ∷ [])))
 
-    module _ {after' : NameTable} {second : reader.NameRead} (two : ThereIs (NameThere (utf8 ", ") z.text first.end after after' second)) where
+    module _ {after' : NameTable} {second : reader.NameRead} (two : ThereIs (NameThere (utf8 ", ") after.text.now first.end after after' second)) where
       abbrev y : Name
       y = two.value
 
+      there : NameThere (utf8 ", ") z.text first.end after after' second y
+      there = subst (λ t. NameThere (utf8 ", ") t first.end after after' second y) same_text two.holds
+
       second_comes : Comes z.types z.text (let_rest c.entries x y (drop second.end z.text))
-      second_comes = name_on (utf8 ", ") after first.end (let_rest c.entries x) first_comes two.holds
+      second_comes = name_on (utf8 ", ") after first.end (let_rest c.entries x) first_comes there
 
       pub let_not : expect (utf8 ") = ") (drop second.end z.text) ≡ None → Refuses z
       unfolding let_rest
@@ -202,7 +213,7 @@ module _ {z : Scene} {work : Work} {s : Progress} (c : Started let_word z work s
         unfolding noting entry_marks entry_records entry_after added
         let_opens =
             let k = entries_marks c.entries in
-            let seen = table_names z.names z.text in
+            let seen = table_names z.names in
             let once = one.holds in
             let twice = two.holds in
             record {
@@ -215,6 +226,6 @@ module _ {z : Scene} {work : Work} {s : Progress} (c : Started let_word z work s
               records_are = λ number. sym (append-nil (stack_records number c.entries));
               entry_is = λ number e.
                   let a = number_noted x seen (y ∷ []) _ number (twice.noted.names ∙ ap (λ l. added l (y ∷ [])) once.noted.names) once.number_is e in
-                  let b = number_noted y (table_names after z.text) [] _ number twice.noted.names twice.number_is e in
+                  let b = number_noted y (table_names after) [] _ number twice.noted.names twice.number_is e in
                   cc (a, b);
             }

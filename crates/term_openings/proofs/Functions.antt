@@ -1,6 +1,6 @@
 -- A function: its parameter, the label of it, and then an entry for the body.
 use Prim.Native.Nat.{ℕ, ◌<◌}
-use mathlib.Core.Path.{◌≡◌, sym, ap, ◌∙◌}
+use mathlib.Core.Path.{◌≡◌, sym, ap, ◌∙◌, subst}
 use mathlib.Core.Bool.{false, true≢false}
 use Rattle.std.specs.Prelude.{Option, None, Some}
 use mathlib.Core.List.{List, [], ◌∷◌, ◌++◌, append_assoc, append-nil}
@@ -16,9 +16,10 @@ use Rattle.reading_laws.specs.TermMachine.{Entry, function_body, State, reading,
 use Rattle.reading_laws.specs.Marks.{Mark, called, labelled, label_marks, entry_marks, entries_marks, met, names_met}
 use Rattle.reading_laws.proofs.OnTheWay.{Fits, nodes_label, names_label, label_limited}
 use Rattle.reading_laws.proofs.Turns.{Next, next_then, next_after}
-use Rattle.words.specs.declared.NameTable.{NameTable}
+use Rattle.words.specs.declared.name_table.NameTable.{NameTable}
 use Rattle.words.specs.Places.{Expected}
-use Rattle.words.specs.Table.{added, table_names}
+use Rattle.words.specs.Names.{added}
+use Rattle.words.specs.Table.{table_names}
 use Rattle.prop_parts.specs.declared.NameRead.{NameRead}
 use Rattle.atom_reader.proofs.Readings.{gives_any, gives_from}
 use Rattle.proof_term.specs.declared.nodes.Label as numbered
@@ -53,7 +54,7 @@ stored_label {l = l} st g =
 
 -- a parameter whose label passes the limits
 unfit_parameter : {ms : List Mark} {records : (Name → ℕ) → List ℕ} {stack : (Name → ℕ) → List stacked.Entry} {z : Scene} {work : Work} {used depth to : ℕ}
-    → Stored ms records stack z work used depth to → (l : Option (Label Name)) → fits_parameter (table_names z.names z.text) l ≡ false
+    → Stored ms records stack z work used depth to → (l : Option (Label Name)) → fits_parameter (table_names z.names) l ≡ false
     → (k : List Entry) (entry : Entry) (rest : List ℕ) → entries_marks (entry ∷ k) ≡ ms ++ label_marks l → Fits (reading (entry ∷ k) rest) → ⊥
 unfolding fits_parameter label_marks met
 unfit_parameter st None h k entry rest e = absurd (true≢false h)
@@ -89,12 +90,14 @@ module _ {z : Scene} {work : Work} {s : Progress} (c : Started fn_word z work s)
         (noting z after z.code) work s.used s.depth s.to
     with_name = stored_name x c.stored one.holds.noted
 
-    pub label_place : LabelBegins z.text named.end after s.to
+    -- the label is read of the same text
+    same_text : after.text.now ≡ z.text
+    same_text = one.holds.noted.same_text ∙ c.stored.of_text
+
+    pub label_place : LabelBegins named.end after s.to
     unfolding code_met
     label_place = record {
-      short = c.comes.reached.short;
-      within = one.holds.within;
-      table = one.holds.noted.table;
+      within = rw same_text one.holds.within;
       even = rw c.stored.to_is (even_labels (labels_met (entries_marks c.entries)));
       near = let n = c.placed.near in let f = one.holds.from in omega (arith, n, f);
     }
@@ -102,18 +105,21 @@ module _ {z : Scene} {work : Work} {s : Progress} (c : Started fn_word z work s)
     label_comes : Comes z.types z.text (label_rest z.types c.entries x (drop named.end z.text))
     label_comes = name_on (utf8 " ") z.names s.at (label_rest z.types c.entries) parameter_comes one.holds
 
-    pub label_not : ParameterLacks z.text named.end z.types after → Refuses z
+    pub label_not : ParameterLacks after.text.now named.end z.types after → Refuses z
     unfolding label_rest body_rest noting Next entries_marks entry_marks
     label_not lacks =
         let reading-of = parameter_label z.types prop_levels (drop named.end z.text) in
         unfit label_comes
         (next_then (λ τ. Fits τ → ⊥) (λ l t. reading-of ≡ given l t) reading-of _ (gives_from reading-of _ (λ y e. e)) λ l rest there.
         next_after (λ τ. Fits τ → ⊥) (utf8 " => ") rest _ λ s₁ e₁.
-        unfit_parameter with_name l (lacks l rest there) c.entries (function_body x l) s₁
+        unfit_parameter with_name l (subst (λ t. ParameterLacks t named.end z.types after) same_text lacks l rest there) c.entries (function_body x l) s₁
         (sym (append_assoc (entries_marks c.entries) (called x ∷ []) (label_marks l))))
 
     module _ {after' : NameTable} {code' : List ℕ} {label : LabelRead (Option numbered.Label)}
-        (two : ThereIs (ParameterGiven z.text named.end z.types after z.code s.to after' code' label)) where
+        (two : ThereIs (ParameterGiven after.text.now named.end z.types after z.code s.to after' code' label)) where
+      there : ParameterGiven z.text named.end z.types after z.code s.to after' code' label two.value
+      there = subst (λ t. ParameterGiven t named.end z.types after z.code s.to after' code' label two.value) same_text two.holds
+
       abbrev l : Option (Label Name)
       l = two.value
 
@@ -121,7 +127,7 @@ module _ {z : Scene} {work : Work} {s : Progress} (c : Started fn_word z work s)
       unfolding label_rest
       body_comes =
           goes_on (parameter_label z.types prop_levels (drop named.end z.text)) (body_rest c.entries x) l (drop label.end z.text) label_comes
-          two.holds.reads
+          there.reads
 
       pub arrow_not : expect (utf8 " => ") (drop label.end z.text) ≡ None → Refuses z
       unfolding body_rest
@@ -134,7 +140,7 @@ module _ {z : Scene} {work : Work} {s : Progress} (c : Started fn_word z work s)
 
         pub function_long : s.at < body
         function_long =
-            let f = one.holds.from in let g = two.holds.from in let a = arrow.after in omega (arith, f, g, a)
+            let f = one.holds.from in let g = there.from in let a = arrow.after in omega (arith, f, g, a)
 
         pub function_opens : Opens c.entries (function_body x l) (noting z after' code') work (further s body label.to)
             (FunctionBody named.number label.label)
@@ -142,7 +148,7 @@ module _ {z : Scene} {work : Work} {s : Progress} (c : Started fn_word z work s)
         function_opens =
             let k = entries_marks c.entries in
             let once = one.holds in
-            let twice = two.holds in
+            let twice = there in
             record {
               placed = record {
                 within = arrow.within;
@@ -155,7 +161,7 @@ module _ {z : Scene} {work : Work} {s : Progress} (c : Started fn_word z work s)
               marks_are = append_assoc k (called x ∷ []) (label_marks l);
               records_are = λ number. sym (append-nil (stack_records number c.entries));
               entry_is = λ number e.
-                  let a = number_noted x (table_names z.names z.text) (parameter_label_names l) _ number
+                  let a = number_noted x (table_names z.names) (parameter_label_names l) _ number
                   (twice.noted.names ∙ ap (λ seen. added seen (parameter_label_names l)) once.noted.names) once.number_is e in
                   let to_is : s.to ≡ code_met (k ++ (called x ∷ [])) = c.stored.to_is ∙ sym (code_called k x) in
                   let b : label.label ≡ numbered_parameter number (code_met (k ++ (called x ∷ []))) l =

@@ -14,8 +14,9 @@ use Rattle.reading_laws.specs.Marks.{Mark, called, met, nodes_met, names_met, li
 use Rattle.reading_laws.proofs.MarksMet.{After}
 use Rattle.reading_laws.proofs.OnTheWay.{Fits, different_names, nodes_both, names_both, limited_both}
 use Rattle.reading_laws.proofs.Turns.{Next}
-use Rattle.words.specs.declared.NameTable.{NameTable}
-use Rattle.words.specs.Table.{added, table_names, Noted}
+use Rattle.words.specs.declared.name_table.NameTable.{NameTable}
+use Rattle.words.specs.Names.{added}
+use Rattle.words.specs.Table.{table_names, Noted}
 use Rattle.words.proofs.Added.{added_append, added_firsts}
 use Rattle.atom_reader.specs.Scope.{Crowded}
 use Rattle.atom_reader.proofs.Scopes.{crowded_first, crowded_second}
@@ -32,13 +33,13 @@ noting z names code = record { types = z.types; text = z.text; names = names; be
 module _ {ms : List Mark} {records : (Name → ℕ) → List ℕ} {stack : (Name → ℕ) → List stacked.Entry} {z : Scene} {work : Work} {used depth to : ℕ} where
   -- names and labels are met
   pub stored_met : (more : List Mark) {after : NameTable} {code : List ℕ} {to' : ℕ} → Stored ms records stack z work used depth to
-      → Noted (names_met more) z.text z.names after → nodes_met more ≡ 0 → limited_met more ≡ true → to' ≡ to + code_met more
-      → ((number : Name → ℕ) → Extends number (table_names after z.text) → code ≡ store_labels number to (labels_met more) z.code)
+      → Noted (names_met more) z.names after → nodes_met more ≡ 0 → limited_met more ≡ true → to' ≡ to + code_met more
+      → ((number : Name → ℕ) → Extends number (table_names after) → code ≡ store_labels number to (labels_met more) z.code)
       → Stored (ms ++ more) records stack (noting z after code) work used depth to'
   unfolding noting code_met
   stored_met more {after} {code} st noted none_made small to-is' code-is' =
-      let seen = table_names z.names z.text in
-      let known : table_names after z.text ≡ added seen (names_met more) = noted.names in
+      let seen = table_names z.names in
+      let known : table_names after ≡ added seen (names_met more) = noted.names in
       let start : to ≡ 0 + labels_size (labels_met ms) = let t = st.to_is in omega (arith, t) in
       record {
         room = st.room;
@@ -48,7 +49,7 @@ module _ {ms : List Mark} {records : (Name → ℕ) → List ℕ} {stack : (Name
         used_is = let n = nodes_both ms more in let u = st.used_is in omega (arith, n, u, none_made);
         to_is = let n = code_both ms more in let t = st.to_is in omega (arith, n, t, to-is');
         limited = limited_both ms more st.limited small;
-        table = noted.table;
+        of_text = noted.same_text ∙ st.of_text;
         names_are =
             known ∙ (ap (λ xs. added xs (names_met more)) st.names_are
             ∙ (sym (added_append [] (names_met ms) (names_met more)) ∙ ap (added []) (sym (names_both ms more))));
@@ -68,13 +69,13 @@ module _ {ms : List Mark} {records : (Name → ℕ) → List ℕ} {stack : (Name
 
   -- a name is met
   pub stored_name : (x : Name) {after : NameTable} → Stored ms records stack z work used depth to
-      → Noted (x ∷ []) z.text z.names after
+      → Noted (x ∷ []) z.names after
       → Stored (ms ++ (called x ∷ [])) records stack (noting z after z.code) work used depth to
   unfolding nodes_met names_met limited_met labels_met code_met labels_size store_labels
   stored_name x st noted = stored_met (called x ∷ []) st noted refl refl (omega arith) (λ number e. refl)
 
   -- with these names there are too many
-  pub crowded_met : (more : List Mark) → Stored ms records stack z work used depth to → Crowded (table_names z.names z.text) (names_met more)
+  pub crowded_met : (more : List Mark) → Stored ms records stack z work used depth to → Crowded (table_names z.names) (names_met more)
       → Crowded [] (names_met (ms ++ more))
   crowded_met more st h = rw (names_both ms more) (crowded_second [] (names_met ms) (names_met more) (rw st.names_are at h))
 

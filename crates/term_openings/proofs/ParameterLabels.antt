@@ -14,7 +14,7 @@ use Rattle.definitions.specs.TermText.{parameter_label_names}
 use Rattle.definitions.specs.TermReader.{expect, if_read, label, parameter_label, prop_levels, is_limited_parameter_label}
 use Rattle.definitions.specs.TermMemory.{parameter_labels, labels_size, store_labels}
 use Rattle.definitions.proofs.Readings.{given}
-use Rattle.words.specs.declared.NameTable.{NameTable}
+use Rattle.words.specs.declared.name_table.NameTable.{NameTable}
 use Rattle.words.specs.Places.{Expected}
 use Rattle.words.specs.Table.{table_names}
 use Rattle.atom_reader.proofs.Atoms.{noted_none}
@@ -38,19 +38,17 @@ behind_colon (Some x) l rest P h e =
     rw (← same) (h x refl)
 
 -- a label may begin behind the colon
-pub label_begins : {text : List ℕ} {at : ℕ} {held : NameTable} {to place : ℕ} → Expected (utf8 ": ") text at place → LabelBegins text at held to
-    → LabelBegins text place held to
+pub label_begins : {at : ℕ} {held : NameTable} {to place : ℕ} → Expected (utf8 ": ") held.text.now at place → LabelBegins at held to
+    → LabelBegins place held to
 label_begins colon begins = record {
-  short = begins.short;
   within = colon.within;
-  table = begins.table;
   even = begins.even;
   near = let n = begins.near in let a = colon.after in omega (arith, n, a);
 }
 
-module _ {text : List ℕ} {at : ℕ} {types : List Name} {held : NameTable} {code : List ℕ} {to : ℕ} (begins : LabelBegins text at held to) where
-  pub no_label : expect (utf8 ": ") (drop at text) ≡ None
-      → ThereIs (ParameterGiven text at types held code to held code (record { end = at; label = None; to = to }))
+module _ {at : ℕ} {types : List Name} {held : NameTable} {code : List ℕ} {to : ℕ} (begins : LabelBegins at held to) where
+  pub no_label : expect (utf8 ": ") (drop at held.text.now) ≡ None
+      → ThereIs (ParameterGiven held.text.now at types held code to held code (record { end = at; label = None; to = to }))
   unfolding parameter_label if_read yield is_limited_parameter_label parameter_label_names parameter_labels numbered_parameter labels_size store_labels
   no_label e = record {
     value = None;
@@ -58,7 +56,7 @@ module _ {text : List ℕ} {at : ℕ} {types : List Name} {held : NameTable} {co
       within = begins.within;
       reads = rw e;
       limited = refl;
-      noted = noted_none begins.table;
+      noted = noted_none;
       label_is = λ number e. refl;
       stored = λ number e. refl;
       to_is = omega arith;
@@ -67,15 +65,15 @@ module _ {text : List ℕ} {at : ℕ} {types : List Name} {held : NameTable} {co
     };
   }
 
-  module _ {place : ℕ} {after : NameTable} {code' : List ℕ} (colon : Expected (utf8 ": ") text at place) where
-    pub label_lacks : LabelAnswer text place types held code to after code' None → ParameterLacks text at types held
+  module _ {place : ℕ} {after : NameTable} {code' : List ℕ} (colon : Expected (utf8 ": ") held.text.now at place) where
+    pub label_lacks : LabelAnswer place types held code to after code' None → ParameterLacks held.text.now at types held
     unfolding parameter_label if_read ◌>>=◌ fits_parameter
     label_lacks answer = λ l rest e.
-        behind_colon (label types prop_levels (drop place text)) l rest (λ m. fits_parameter (table_names held text) m ≡ false) answer.answer
+        behind_colon (label types prop_levels (drop place held.text.now)) l rest (λ m. fits_parameter (table_names held) m ≡ false) answer.answer
         (rw colon.reads at e)
 
-    pub some_label : {r : LabelRead numbered.Label} → LabelAnswer text place types held code to after code' (Some r)
-        → ThereIs (ParameterGiven text at types held code to after code' (record { end = r.end; label = Some r.label; to = r.to }))
+    pub some_label : {r : LabelRead numbered.Label} → LabelAnswer place types held code to after code' (Some r)
+        → ThereIs (ParameterGiven held.text.now at types held code to after code' (record { end = r.end; label = Some r.label; to = r.to }))
     unfolding parameter_label if_read ◌>>=◌ followed_by yield is_limited_parameter_label parameter_label_names parameter_labels numbered_parameter
     some_label answer =
         let (l, g) = answer.answer in

@@ -19,8 +19,9 @@ use Rattle.reading_laws.specs.TermMachine.{State}
 use Rattle.reading_laws.specs.Marks.{Mark, called, labelled, node, names_met, limited_met}
 use Rattle.reading_laws.proofs.MarksMet.{After}
 use Rattle.reading_laws.proofs.OnTheWay.{Fits, limited_first}
-use Rattle.words.specs.declared.NameTable.{NameTable}
-use Rattle.words.specs.Table.{added, number_in, table_names}
+use Rattle.words.specs.declared.name_table.NameTable.{NameTable}
+use Rattle.words.specs.Names.{added, number_in}
+use Rattle.words.specs.Table.{table_names}
 use Rattle.atom_reader.specs.Scope.{Met}
 use Rattle.atom_reader.specs.Reading.{code_over}
 use Rattle.atom_reader.proofs.Scopes.{added_meets, prop_same}
@@ -54,20 +55,20 @@ module _ {seen : List Name} {code : List ℕ} {to : ℕ} {code' : List ℕ} {r :
         stored ∙ ap (λ q. sets code to (encode q)) (sym (prop_same number (number_in seen) seen extends p known))
     kept_code (datatype t) (of_datatype is stored next) known = stored
 
-module _ {text : List ℕ} {at : ℕ} {types : List Name} {held : NameTable} {code : List ℕ} {to : ℕ} {after : NameTable} {code' : List ℕ} {r : LabelRead numbered.Label}
-    {l : Label Name} (g : LabelGiven text at types held code to after code' r l) where
+module _ {at : ℕ} {types : List Name} {held : NameTable} {code : List ℕ} {to : ℕ} {after : NameTable} {code' : List ℕ} {r : LabelRead numbered.Label}
+    {l : Label Name} (g : LabelGiven at types held code to after code' r l) where
   pub label_limited : is_limited_label l ≡ true
   unfolding fits_label
-  label_limited = ((and-eq-true_iff (is_limited_label l) (leb (length (added (table_names held text) (label_names l))) name_limit)).0 g.fits).0
+  label_limited = ((and-eq-true_iff (is_limited_label l) (leb (length (added (table_names held) (label_names l))) name_limit)).0 g.fits).0
 
   pub label_to : r.to ≡ to + labels_size (l ∷ [])
   label_to = kept_to l g.kept
 
   -- each of its names was met
-  label_met : Met (table_names after text) (label_names l)
-  label_met = rw g.noted.names (added_meets (table_names held text) (label_names l))
+  label_met : Met (table_names after) (label_names l)
+  label_met = rw g.noted.names (added_meets (table_names held) (label_names l))
 
-  module _ (number : Name → ℕ) (extends : Extends number (table_names after text)) where
+  module _ (number : Name → ℕ) (extends : Extends number (table_names after)) where
     pub label_is : r.label ≡ numbered_label number to l
     label_is = kept_label number extends l g.kept label_met
 
@@ -88,11 +89,11 @@ either_false true b e f g = g e
 either_false false b e f g = f refl
 
 pub label_unfit : {ms : List Mark} {records : (Name → ℕ) → List ℕ} {stack : (Name → ℕ) → List stacked.Entry} {z : Scene} {work : Work} {used depth to : ℕ}
-    → Stored ms records stack z work used depth to → (l : Label Name) → fits_label (table_names z.names z.text) l ≡ false
+    → Stored ms records stack z work used depth to → (l : Label Name) → fits_label (table_names z.names) l ≡ false
     → (τ : State) → After (ms ++ (labelled l ∷ [])) τ → Fits τ → ⊥
 unfolding fits_label names_met
 label_unfit {ms} {z = z} st l h τ b f =
-    let names = table_names z.names z.text in
+    let names = table_names z.names in
     either_false (is_limited_label l) (leb (length (added names (label_names l))) name_limit) h
     (λ e. let all = limited_first (ms ++ (labelled l ∷ [])) b.more (rw b.is at f.small_labels) in absurd (true≢false (sym (limited_there ms l [] all) ∙ e)))
     (λ e. too_many_names (ms ++ (labelled l ∷ [])) τ

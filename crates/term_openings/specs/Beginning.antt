@@ -7,8 +7,9 @@ use Rattle.definitions.proofs.Readings.{given}
 use Rattle.reading_laws.specs.TermMachine as machine
 use Rattle.reading_laws.specs.TermMachine.{Entry, closed_for, start}
 use Rattle.reading_laws.specs.Marks.{purpose_marks, entries_marks}
-use Rattle.words.specs.declared.NameTable.{NameTable}
-use Rattle.words.specs.Table.{add_name, number_in, table_names, TooMany, Noted}
+use Rattle.words.specs.declared.name_table.NameTable.{NameTable}
+use Rattle.words.specs.Names.{add_name, number_in}
+use Rattle.words.specs.Table.{table_names, TooMany, Noted}
 use Rattle.prop_parts.specs.declared.NameRead as reader
 use Rattle.words.specs.declared.NamedFunction as program
 use Rattle.words.specs.Starts.{as_named}
@@ -66,14 +67,14 @@ pub record NameThere (what text : List ℕ) (at : ℕ) (held after : NameTable) 
   pub expected : expect what (drop at text) ≡ given tt (drop (at + length what) text)
   pub reads : name (drop (at + length what) text) ≡ given x (drop r.end text)
   pub from : at + length what < r.end
-  pub noted : Noted (x ∷ []) text held after
-  pub number_is : r.number ≡ number_in (add_name (table_names held text) x) x
+  pub noted : Noted (x ∷ []) held after
+  pub number_is : r.number ≡ number_in (add_name (table_names held) x) x
   pub below : r.number < after.count
 
 -- there is none, or one too many
 abbrev pub NameLacksAfter : List ℕ → List ℕ → ℕ → NameTable → Type 0
 NameLacksAfter what text at held =
-    (t : List ℕ) (x : Name) (rest : List ℕ) → expect what (drop at text) ≡ given tt t → name t ≡ given x rest → TooMany x text held
+    (t : List ℕ) (x : Name) (rest : List ℕ) → expect what (drop at text) ≡ given tt t → name t ≡ given x rest → TooMany x held
 
 -- Turns that leave the labels' code alone, or the names too: what they do not see may be anything.
 
@@ -91,11 +92,12 @@ unfoldable pub TextEnds : Standpoint → ℕ → List ℕ → Work → Progress 
 TextEnds At more text work s work' r =
     (z : Scene) → At (with_text z text) work s → MatchOption r (Refuses (with_text z text)) (Turned (with_text z text) work' (left_at text s more))
 
--- a turn that reads text and names
-unfoldable pub NamesBegin : Standpoint → List ℕ → NameTable → Work → Progress → Type 0
-NamesBegin At text names work s = ThereIs (λ (z : Scene). At (with_names z text names) work s)
+-- a turn that reads a text and its names
+unfoldable pub NamesBegin : Standpoint → NameTable → Work → Progress → Type 0
+NamesBegin At names work s = ThereIs (λ (z : Scene). At (with_names z names.text.now names) work s)
 
-unfoldable pub NamesEnd : Standpoint → ℕ → List ℕ → NameTable → Work → Progress → NameTable → Work → Option State → Type 0
-NamesEnd At more text names work s names' work' r =
-    (z : Scene) → At (with_names z text names) work s
-    → MatchOption r (Refuses (with_names z text names')) (Turned (with_names z text names') work' (left_at text s more))
+unfoldable pub NamesEnd : Standpoint → ℕ → NameTable → Work → Progress → NameTable → Work → Option State → Type 0
+NamesEnd At more names work s names' work' r =
+    (z : Scene) → At (with_names z names.text.now names) work s
+    → MatchOption r (Refuses (with_names z names.text.now names'))
+    (Turned (with_names z names.text.now names') work' (left_at names.text.now s more))

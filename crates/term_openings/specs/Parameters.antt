@@ -6,7 +6,7 @@ use Rattle.definitions.specs.TermText.{parameter_label_names}
 use Rattle.definitions.specs.TermReader.{parameter_label, prop_levels, is_limited_parameter_label}
 use Rattle.definitions.specs.TermMemory.{parameter_labels, labels_size, store_labels}
 use Rattle.definitions.proofs.Readings.{given}
-use Rattle.words.specs.declared.NameTable.{NameTable}
+use Rattle.words.specs.declared.name_table.NameTable.{NameTable}
 use Rattle.words.specs.Table.{table_names, Noted}
 use Rattle.proof_term.specs.declared.nodes.Label as numbered
 use Rattle.prop_reader.specs.declared.LabelRead.{LabelRead}
@@ -25,9 +25,9 @@ pub record ParameterGiven
   pub within : r.end ≤ length text
   pub reads : parameter_label types prop_levels (drop at text) ≡ given l (drop r.end text)
   pub limited : is_limited_parameter_label l ≡ true
-  pub noted : Noted (parameter_label_names l) text held after
-  pub label_is : (number : Name → ℕ) → Extends number (table_names after text) → r.label ≡ numbered_parameter number to l
-  pub stored : (number : Name → ℕ) → Extends number (table_names after text) → code' ≡ store_labels number to (parameter_labels l) code
+  pub noted : Noted (parameter_label_names l) held after
+  pub label_is : (number : Name → ℕ) → Extends number (table_names after) → r.label ≡ numbered_parameter number to l
+  pub stored : (number : Name → ℕ) → Extends number (table_names after) → code' ≡ store_labels number to (parameter_labels l) code
   pub to_is : r.to ≡ to + labels_size (parameter_labels l)
   pub from : at ≤ r.end
   pub near : r.to + 2 * at ≤ to + 2 * r.end
@@ -36,4 +36,4 @@ pub record ParameterGiven
 abbrev pub ParameterLacks : List ℕ → ℕ → List Name → NameTable → Type 0
 ParameterLacks text at types held =
     (l : Option (Label Name)) (rest : List ℕ) → parameter_label types prop_levels (drop at text) ≡ given l rest
-    → fits_parameter (table_names held text) l ≡ false
+    → fits_parameter (table_names held) l ≡ false

@@ -4,9 +4,7 @@
 ghost use Rattle.std.specs.Prelude.{◌≤◌, length, MatchOption};
 ghost use Rattle.definitions.specs.CallerNames.{names_in};
 ghost use Rattle.definitions.specs.TermReader.{fn_word, case_word, let_word};
-ghost use Rattle.definitions.specs.TermText.{term_text_limit};
 ghost use Rattle.words.specs.Places.{NameEnds};
-ghost use Rattle.words.specs.Table.{Table};
 ghost use Rattle.prop_reader.specs.Answer.{LabelBegins};
 ghost use Rattle.term_stack.specs.Standing.{ThereIs, AtReading};
 ghost use Rattle.term_stack.specs.Turning.{TurnBegins, TurnEnds};
@@ -20,30 +18,24 @@ use term_stack::{Entry, Progress, Purpose, State, Work, enter, use_leaf};
 use words::{NameTable, NamedFunction, Start, expect, name_end, start_of, word_end};
 
 // Each function is lent the memories that it reads or writes and no others, so that its contract says of the others that they stay: over
-// a struct of text, list, names, code and work every clause would speak of all five. Text and list never change, but no fact is of these
-// two: what is asked of them is asked with the names, the code and the progress, as by `TurnBegins`. So a struct of both would move no
-// clause, and the functions that read the text alone, which most are, would still take the text.
+// a struct of list, names, code and work every clause would speak of all four. The table of names holds the text; a function that looks up
+// no name takes the text alone.
 
 // A name as a closed term, from `s.at` to `end`, read for a purpose.
 fn name_for(
-    text: &[u8],
     names: &mut NameTable,
     work: &mut Work,
     s: Progress,
     end: usize,
     p: Purpose,
 ) -> Option<State>
-    requires { NamesBegin (AtClosed p) text.now names.old work.old s
-        × NameEnds text.now s.at end }
-    ensures { NamesEnd (AtClosed p) 0 text.now names.old work.old s
-        names.new work.new result }
+    requires { NamesBegin (AtClosed p) names.old work.old s
+        × NameEnds names.old.text.now s.at end }
+    ensures { NamesEnd (AtClosed p) 0 names.old work.old s names.new work.new result }
 {
-    let number = names.number_of_name(text, s.at, end)?;
+    let name = names.number_of_name(s.at, end)?;
     let behind = Progress { at: end, ..s };
-    let leaf = Node::Ident {
-        name: number as u16,
-    };
-    use_leaf(work, behind, leaf, p)
+    use_leaf(work, behind, Node::Ident { name }, p)
 }
 
 // A bracket that opens, read for a purpose: unit where it closes at once, or else an entry for what stands in it.
@@ -61,19 +53,13 @@ fn open_for(text: &[u8], work: &mut Work, s: Progress, p: Purpose) -> Option<Sta
 }
 
 // A closed term at `s.at`, read for a purpose: a name, `sorry`, unit, or a bracket that opens.
-pub fn closed_for(
-    text: &[u8],
-    names: &mut NameTable,
-    work: &mut Work,
-    s: Progress,
-    p: Purpose,
-) -> Option<State>
-    requires { NamesBegin (AtClosed p) text.now names.old work.old s }
-    ensures { NamesEnd (AtClosed p) 0 text.now names.old work.old s
-        names.new work.new result }
+pub fn closed_for(names: &mut NameTable, work: &mut Work, s: Progress, p: Purpose) -> Option<State>
+    requires { NamesBegin (AtClosed p) names.old work.old s }
+    ensures { NamesEnd (AtClosed p) 0 names.old work.old s names.new work.new result }
 {
+    let text = names.text;
     if let Some(end) = name_end(text, s.at) {
-        return name_for(text, names, work, s, end, p);
+        return name_for(names, work, s, end, p);
     }
     let end = word_end(text, s.at);
     if &text[s.at..end] == b"sorry".as_slice() {
@@ -95,68 +81,63 @@ fn start_case(text: &[u8], work: &mut Work, s: Progress) -> Option<State>
 // After the word of a named function: a blank, and then the body, a closed term. It shares with `start_case` the line for the blank
 // alone.
 fn call(
-    text: &[u8],
     names: &mut NameTable,
     work: &mut Work,
     s: Progress,
     function: NamedFunction,
 ) -> Option<State>
-    requires { NamesBegin (AtCall function) text.now names.old work.old s }
-    ensures { NamesEnd (AtCall function) 0 text.now names.old work.old s
-        names.new work.new result }
+    requires { NamesBegin (AtCall function) names.old work.old s }
+    ensures { NamesEnd (AtCall function) 0 names.old work.old s names.new work.new result }
 {
-    let body = expect(text, s.at, b" ")?;
+    let body = expect(names.text, s.at, b" ")?;
     let behind = Progress { at: body, ..s };
-    closed_for(text, names, work, behind, Purpose::Body(function))
+    closed_for(names, work, behind, Purpose::Body(function))
 }
 
 // The name after these bytes at `at`, with its number.
-pub fn name_after(text: &[u8], at: usize, what: &[u8], names: &mut NameTable) -> Option<NameRead>
-    requires { Table names.old text.now
-        × (at ≤ length text.now) × (length text.now ≤ term_text_limit) }
-    ensures { MatchOption result (NameLacksAfter what.now text.now at names.old)
-        (λ r. ThereIs (NameThere what.now text.now at names.old names.new r)) }
+pub fn name_after(names: &mut NameTable, at: usize, what: &[u8]) -> Option<NameRead>
+    requires { at ≤ length names.old.text.now }
+    ensures { MatchOption result (NameLacksAfter what.now names.old.text.now at names.old)
+        (λ r. ThereIs (NameThere what.now names.old.text.now at names.old names.new r)) }
 {
-    let start = expect(text, at, what)?;
-    read_name(text, start, names)
+    let start = expect(names.text, at, what)?;
+    read_name(names, start)
 }
 
 // After `let`: two names in brackets, and then the head.
-fn start_let(text: &[u8], names: &mut NameTable, work: &mut Work, s: Progress) -> Option<State>
-    requires { NamesBegin (Started let_word) text.now names.old work.old s }
-    ensures { NamesEnd (Started let_word) 0 text.now names.old work.old s
-        names.new work.new result }
+fn start_let(names: &mut NameTable, work: &mut Work, s: Progress) -> Option<State>
+    requires { NamesBegin (Started let_word) names.old work.old s }
+    ensures { NamesEnd (Started let_word) 0 names.old work.old s names.new work.new result }
 {
-    let first = name_after(text, s.at, b" (", names)?;
-    let second = name_after(text, first.end, b", ", names)?;
+    let text = names.text;
+    let first = name_after(names, s.at, b" (")?;
+    let second = name_after(names, first.end, b", ")?;
     let head = expect(text, second.end, b") = ")?;
     let behind = Progress { at: head, ..s };
-    let entry = Entry::LetHead(first.number as u16, second.number as u16);
-    enter(work, behind, entry)
+    enter(work, behind, Entry::LetHead(first.number, second.number))
 }
 
 // The label of a parameter whose name ends at `at`, if one follows it.
 fn parameter_label(
-    text: &[u8],
+    names: &mut NameTable,
     at: usize,
     types: &[u8],
-    names: &mut NameTable,
     code: &mut [u8],
     to: usize,
 ) -> Option<LabelRead<Option<Label>>>
-    requires { LabelBegins text.now at names.old to }
-    ensures { MatchOption result (ParameterLacks text.now at (names_in types.now) names.old)
-        (λ r. ThereIs (ParameterGiven text.now at (names_in types.now) names.old
+    requires { LabelBegins at names.old to }
+    ensures { MatchOption result (ParameterLacks names.old.text.now at (names_in types.now) names.old)
+        (λ r. ThereIs (ParameterGiven names.old.text.now at (names_in types.now) names.old
         code.old to names.new code.new r)) }
 {
-    let Some(start) = expect(text, at, b": ") else {
+    let Some(start) = expect(names.text, at, b": ") else {
         return Some(LabelRead {
             end: at,
             label: None,
             to,
         });
     };
-    let read = read_label(text, start, types, names, code, to)?;
+    let read = read_label(names, start, types, code, to)?;
     Some(LabelRead {
         end: read.end,
         label: Some(read.label),
@@ -166,19 +147,19 @@ fn parameter_label(
 
 // After `fn`: the parameter with its label, if it has one, and then the body.
 fn start_function(
-    text: &[u8],
     types: &[u8],
     names: &mut NameTable,
     code: &mut [u8],
     work: &mut Work,
     s: Progress,
 ) -> Option<State>
-    requires { TurnBegins (Started fn_word) types.now text.now names.old code.old work.old s }
-    ensures { TurnEnds (Started fn_word) 0 types.now text.now names.old
+    requires { TurnBegins (Started fn_word) types.now names.old code.old work.old s }
+    ensures { TurnEnds (Started fn_word) 0 types.now names.old
         code.old work.old s names.new code.new work.new result }
 {
-    let name = name_after(text, s.at, b" ", names)?;
-    let read = parameter_label(text, name.end, types, names, code, s.to)?;
+    let text = names.text;
+    let name = name_after(names, s.at, b" ")?;
+    let read = parameter_label(names, name.end, types, code, s.to)?;
     let body = expect(text, read.end, b" => ")?;
     let behind = Progress {
         at: body,
@@ -186,7 +167,7 @@ fn start_function(
         ..s
     };
     let entry = Entry::FunctionBody {
-        name: name.number as u16,
+        name: name.number,
         label: read.label,
     };
     enter(work, behind, entry)
@@ -194,25 +175,25 @@ fn start_function(
 
 // A term begins at `s.at`: goes on by its first word.
 pub fn start(
-    text: &[u8],
     types: &[u8],
     names: &mut NameTable,
     code: &mut [u8],
     work: &mut Work,
     s: Progress,
 ) -> Option<State>
-    requires { TurnBegins AtReading types.now text.now names.old code.old work.old s }
-    ensures { TurnEnds AtReading 0 types.now text.now names.old
+    requires { TurnBegins AtReading types.now names.old code.old work.old s }
+    ensures { TurnEnds AtReading 0 types.now names.old
         code.old work.old s names.new code.new work.new result }
 {
+    let text = names.text;
     let end = word_end(text, s.at);
     let first = start_of(&text[s.at..end]);
     let behind = Progress { at: end, ..s };
     match first {
-        Start::Function => start_function(text, types, names, code, work, behind),
+        Start::Function => start_function(types, names, code, work, behind),
         Start::Case => start_case(text, work, behind),
-        Start::Let => start_let(text, names, work, behind),
-        Start::Call(function) => call(text, names, work, behind, function),
-        Start::Sorry | Start::Other => closed_for(text, names, work, s, Purpose::Head),
+        Start::Let => start_let(names, work, behind),
+        Start::Call(function) => call(names, work, behind, function),
+        Start::Sorry | Start::Other => closed_for(names, work, s, Purpose::Head),
     }
 }

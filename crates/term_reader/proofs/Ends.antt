@@ -20,7 +20,8 @@ use Rattle.reading_laws.specs.Marks.{entries_marks, met}
 use Rattle.reading_laws.proofs.Entries.{entries, hand_nesting}
 use Rattle.reading_laws.proofs.OnTheWay as way
 use Rattle.reading_laws.proofs.OnTheWay.{Fits, nodes_met_lem, names_met_lem, rest_refused, own_refused, last_accepted}
-use Rattle.words.specs.Table.{added, table_names}
+use Rattle.words.specs.Names.{added}
+use Rattle.words.specs.Table.{table_names}
 use Rattle.words.proofs.Added.{added_firsts}
 use Rattle.words.proofs.Numbers.{names_length}
 use Rattle.term_stack.specs.declared.Progress.{Progress}
@@ -42,15 +43,15 @@ module _ {term : Shown (ProofTerm Name)} {z : Scene} {work : Work} {s : Progress
   abbrev t : ProofTerm Name
   t = term.shown
 
-  names_are : table_names z.names z.text ≡ added [] (term_names t)
+  names_are : table_names z.names ≡ added [] (term_names t)
   unfolding entries_marks
   names_are = b.stored.names_are ∙ ap (added []) (names_met_lem t)
 
   count_is : z.names.count ≡ length (different_names t)
   unfolding different_names
-  count_is = sym (names_length z.names z.text) ∙ (ap length names_are ∙ added_firsts (term_names t))
+  count_is = sym (names_length z.names) ∙ (ap length names_are ∙ added_firsts (term_names t))
 
-  extends : Extends (place (different_names t)) (table_names z.names z.text)
+  extends : Extends (place (different_names t)) (table_names z.names)
   unfolding different_names
   extends = rw names_are (places_extend (term_names t))
 
@@ -58,7 +59,7 @@ module _ {term : Shown (ProofTerm Name)} {z : Scene} {work : Work} {s : Progress
   unfolding entries_marks
   used_is = b.stored.used_is ∙ nodes_met_lem t
 
-  in_order : reverse (table_names z.names z.text) ≡ different_names t
+  in_order : reverse (table_names z.names) ≡ different_names t
   unfolding different_names
   in_order = ap reverse names_are ∙ different_in_order (term_names t)
 
@@ -72,7 +73,7 @@ module _ {term : Shown (ProofTerm Name)} {z : Scene} {work : Work} {s : Progress
     few_entries = omega arith;
     shallow = let n = b.hand.nest in let h = b.hand.shallow in omega (arith, n, h);
     few_nodes = let u = b.stored.used_is in let h = b.stored.few in omega (arith, u, h);
-    few_names = let c = count_is in let h = b.stored.table.few in rw (names_met_lem t) (omega (arith, c, h));
+    few_names = let c = count_is in let h = z.names.table.few in rw (names_met_lem t) (omega (arith, c, h));
     small_labels = b.stored.limited;
   }
 
@@ -90,12 +91,13 @@ module _ {term : Shown (ProofTerm Name)} {z : Scene} {work : Work} {s : Progress
           answer = answer;
           roomy = (b.stored.room, b.stored.places);
           few = let h = b.stored.few in omega (arith, used_is, h);
-          table = b.stored.table;
+          of_text = b.stored.of_text;
           count_is = count_is;
           records_are = ap (λ n. take (7 * n) work.records) (sym used_is) ∙ (lies.records_are ∙ all_records (place (different_names t)) t);
           marks = λ i h.
-              sym (marked_in_order z.names.pairs z.text z.names.count i (omega (arith, count_is, h)))
-              ∙ ap (λ l. get_or l i []) in_order;
+              rw b.stored.of_text at
+              (sym (marked_in_order z.names.pairs z.names.text.now z.names.count i (omega (arith, count_is, h)))
+              ∙ ap (λ l. get_or l i []) in_order);
           code_is = lies.code_is ∙ ap (λ ls. store_labels (place (different_names t)) 0 ls z.before) (labels_met_lem t);
         }
 

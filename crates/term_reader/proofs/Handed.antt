@@ -1,6 +1,6 @@
 -- What is answered: 20, and after it 16, with all memory as it was; or the term, whose numbers and bytes stand in the lent memory.
 use Prim.Native.Nat.{ℕ, ◌*◌, ◌≤◌, ◌<◌}
-use mathlib.Core.Path.{◌≡◌, refl, ap, ◌∙◌}
+use mathlib.Core.Path.{◌≡◌, refl, sym, ap, ◌∙◌, subst}
 use mathlib.Core.Bool.{Bool, true, false, ◌||◌, true≢false, and-false}
 use mathlib.Core.List.{List, [], ◌++◌}
 use native.Mathlib.Omega.{arith}
@@ -21,14 +21,13 @@ use Rattle.definitions.specs.TermMemory.{different_names, record_numbers, TermRo
 use Rattle.reading_laws.specs.Restoring.{Restores}
 use Rattle.reading_laws.proofs.Restored.{restored}
 use Rattle.words.proofs.Numbers.{end_kept, marked_kept}
-use Rattle.words.specs.declared.NameTable.{NameTable}
+use Rattle.words.specs.declared.name_table.NameTable.{NameTable}
 use Rattle.term_stack.specs.declared.Work.{Work}
 use Rattle.term_stack.specs.Standing.{Scene}
 use Rattle.term_stack.specs.Turning.{scene_of}
 use Rattle.std.specs.Option.{ok_or}
-use Rattle.std.specs.Prelude.{Option, None, Some, Result, Ok, Err}
-use Rattle.term_reader.specs.Between.{ReadBegins}
-use Rattle.term_reader.specs.Whole.{WholeTerm, Read, ReadEnds, Measures}
+use Rattle.std.specs.Prelude.{Option, None, Some, Result, Ok, Err, MatchResult}
+use Rattle.term_reader.specs.Whole.{WholeTerm, Read, ReadEnds, NoTerm, Measures}
 use Rattle.term_reader.specs.Answered.{size_of, answer_of, records_by, code_by, PairsOf, NamesBy, Answers, Copyable, short_for, Fitting, room_of, ReadsTerm, RestoresTerm}
 use Rattle.term_reader.specs.declared.TermSize.{TermSize}
 use Rattle.definitions.specs.declared.Refusal.{Refusal}
@@ -87,8 +86,8 @@ module _ {t : ProofTerm Name} {z : Scene} {work : Work} (w : WholeTerm t z work)
   names_handed : (names : List ℕ) → 4 * count ≤ length names → PairsOf (different_names t) z.text names (pairs ++ drop (4 * count) names)
   unfolding pair_size name_limit
   names_handed names fits =
-      let room = w.table.room in
-      let few = w.table.few in
+      let room = z.names.table.room in
+      let few = z.names.table.few in
       let long : length pairs ≡ 4 * count = length-take-le (4 * count) z.names.pairs (omega (arith, room, few, w.count_is)) in
       let kept : take (pair_size * count) (pairs ++ drop (4 * count) names) ≡ take (pair_size * count) z.names.pairs = take_at pairs (drop (4 * count) names) (4 * count) long in
       record {
@@ -97,7 +96,7 @@ module _ {t : ProofTerm Name} {z : Scene} {work : Work} (w : WholeTerm t z work)
             let d = length-drop (4 * count) names in
             omega (arith, l, d, long, fits);
         marks = λ i h. marked_kept z.names.pairs (pairs ++ drop (4 * count) names) z.text count kept i h ∙ w.marks i h;
-        within = λ i h. rw (end_kept z.names.pairs (pairs ++ drop (4 * count) names) z.text count kept i h) (w.table.ends i (omega (arith, h, w.count_is)));
+        within = λ i h. rw (end_kept z.names.pairs (pairs ++ drop (4 * count) names) z.text count kept i h) (rw w.of_text at (z.names.table.ends i (omega (arith, h, w.count_is))));
         rest = drop_at pairs (drop (4 * count) names) (4 * count) long;
       }
 
@@ -105,22 +104,22 @@ module _ {t : ProofTerm Name} {z : Scene} {work : Work} (w : WholeTerm t z work)
 pub held : {t : ProofTerm Name} {size : TermSize} {work : Work} {z : Scene} → WholeTerm t z work → size ≡ size_of t
     → Copyable (length work.records) (length z.names.pairs) size
 unfolding pair_size name_limit size_of
-held w e =
+held {z = z} w e =
     let room = w.roomy.0 in
     let few = w.few in
-    let table = w.table.room in
-    let names_few = w.table.few in
+    let table = z.names.table.room in
+    let names_few = z.names.table.few in
     let used = ap (λ (s : TermSize). s.nodes) e in
     let count = ap (λ (s : TermSize). s.names) e in
     let all = w.count_is in
     record { records_fit = omega (arith, room, few, used); names_fit = omega (arith, table, names_few, count, all) }
 
 -- what is copied of the term that was read is what the definitions ask for
-pub handed : {t : ProofTerm Name} {list text : List ℕ} {table : NameTable} {work : Work} {records names code : List ℕ} {size : TermSize}
-    (fitting : Fitting t list text table work records names code size) (table' : NameTable) (code' : List ℕ) {work' : Work} {records' names' : List ℕ}
-    → WholeTerm t (scene_of list text table' code code') work'
+pub handed : {t : ProofTerm Name} {list : List ℕ} {table : NameTable} {work : Work} {records names code : List ℕ} {size : TermSize}
+    (fitting : Fitting t list table work records names code size) (table' : NameTable) (code' : List ℕ) {work' : Work} {records' names' : List ℕ}
+    → WholeTerm t (scene_of list table.text.now table' code code') work'
     → records' ≡ take (7 * size.nodes) work'.records ++ drop (7 * size.nodes) records → names' ≡ take (4 * size.names) table'.pairs ++ drop (4 * size.names) names
-    → Answers (accepted t) text records names code records' names' code' (Ok size)
+    → Answers (accepted t) table.text.now records names code records' names' code' (Ok size)
 unfolding answer_of size_of code_by NamesBy scene_of
 handed {t} {records = records} {names = names} {code = code} {size = size} fitting table' code' {work'} whole copied stored =
     let e = fitting.size_is in
@@ -140,18 +139,36 @@ module _ {z : Scene} {work : Work} {size : TermSize} (read : Read z work size) w
   unfolding name_limit size_of
   counted =
       let few = read.whole.few in
-      let names_few = read.whole.table.few in
+      let names_few = z.names.table.few in
       let all = read.whole.count_is in
       let used = ap (λ (s : TermSize). s.nodes) read.size_is in
       let count = ap (λ (s : TermSize). s.names) read.size_is in
       (omega (arith, few, used), omega (arith, names_few, all, count))
 
-pub fitting : (list text : List ℕ) (table : NameTable) (records names code : List ℕ) {work : Work} {size : TermSize} → ReadBegins list text work
+-- what was read of a text was read of the table's, and of the same bytes
+own_whole : (t : ProofTerm Name) (list text before code : List ℕ) (names : NameTable) (work : Work) → WholeTerm t (scene_of list text names before code) work
+    → WholeTerm t (scene_of list names.text.now names before code) work
+unfolding scene_of
+own_whole t list text before code names work w = subst (λ s. WholeTerm t (record { types = names_in list; text = s; names = names; before = before; code = code }) work) (sym w.of_text) w
+
+pub read_of : (list before code : List ℕ) (names : NameTable) (work : Work) (size : TermSize) {s t : List ℕ} → s ≡ t
+    → Read (scene_of list s names before code) work size → Read (scene_of list t names before code) work size
+read_of list before code names work size e = subst (λ t. Read (scene_of list t names before code) work size) e
+
+pub answers_of : {o : Outcome (ProofTerm Name)} {records names code records' names' code' s t : List ℕ} {r : Result TermSize Refusal} → s ≡ t
+    → Answers o s records names code records' names' code' r → Answers o t records names code records' names' code' r
+answers_of e a = rw e at a
+
+pub fitting : (list text : List ℕ) (table : NameTable) (records names code : List ℕ) {work : Work} {size : TermSize} → all_admitted (names_in list) ≡ true
     → (read : Read (scene_of list text table [] []) work size)
-    → short_for (length records) (length names) (length code) size ≡ false → Fitting read.term list text table work records names code size
-unfolding scene_of size_of
-fitting list text _ records names code begins read enough = record {
-  measured = record { begins = begins; whole = read.whole; size_is = ap (λ (s : TermSize). s.code) read.size_is };
+    → short_for (length records) (length names) (length code) size ≡ false → Fitting read.term list table work records names code size
+unfolding size_of
+fitting list text _ records names code listed read enough = record {
+  measured = record {
+    begins = record { listed = listed; roomy = read.whole.roomy };
+    whole = own_whole _ _ _ _ _ _ _ read.whole;
+    size_is = ap (λ (s : TermSize). s.code) read.size_is;
+  };
   size_is = read.size_is;
   fits = enough;
 }
@@ -176,16 +193,20 @@ restores list text records names code answers s t bytes exports shown short list
     rw (answers_term (room_of records names code) types text read enough) at answers
 
 -- what the first pass has read, or that there is none
-pub measures : (list text : List ℕ) (names : NameTable) (work : Work) (r : Option TermSize) {e : Refusal} {x : Result TermSize Refusal} → length text ≤ term_text_limit
-    → all_admitted (names_in list) ≡ true → ReadEnds (scene_of list text names [] []) work r → e ≡ record { number = 20; place = 0 } → x ≡ ok_or r e
-    → Measures list text names work x
+pub measures : (list text : List ℕ) (names : NameTable) (work : Work) (r : Option TermSize) {e : Refusal} {x : Result TermSize Refusal}
+    → ReadEnds (scene_of list text names [] []) work r → e ≡ record { number = 20; place = 0 } → x ≡ ok_or r e
+    → MatchResult x (Measures list text names work) (NoTerm list text)
 unfolding scene_of
-measures list text names work None short listed none e is = rw (is, e) (none, refl)
-measures list text names work (Some size) short listed read e is =
-    rw is (read, record { short = short; listed = listed; roomy = read.whole.roomy })
+measures list text names work None none e is = rw (is, e) (record { none = none; is = refl })
+measures list text names work (Some size) read e is = rw is read
 
--- how large it is
-pub measured_size : (list text : List ℕ) (names : NameTable) (work : Work) (r : Result TermSize Refusal) → Measures list text names work r → r ≡ answer_of (read_answer (names_in list) text)
-unfolding answer_of refuse scene_of
-measured_size list text names work (Ok size) (read, begins) = rw (read.whole.answer, read.size_is) refl
-measured_size list text names work (Err e) (none, is) = rw (none, is) refl
+-- how large it is, or that there is none
+pub no_size : (list text : List ℕ) {e : Refusal} → NoTerm list text e → Err e ≡ answer_of (read_answer (names_in list) text)
+unfolding answer_of refuse
+no_size list text lacks = rw (lacks.none, lacks.is) refl
+
+pub measured_size : (list text : List ℕ) (names : NameTable) (work : Work) (r : Result TermSize Refusal)
+    → MatchResult r (Measures list text names work) (NoTerm list text) → r ≡ answer_of (read_answer (names_in list) text)
+unfolding answer_of scene_of
+measured_size list text names work (Ok size) read = rw (read.whole.answer, read.size_is) refl
+measured_size list text names work (Err e) lacks = no_size list text lacks

@@ -12,7 +12,7 @@ use Rattle.definitions.specs.Name.{Name, eq_name}
 use Rattle.definitions.specs.Sheet.{marked}
 use Rattle.definitions.specs.Text.{occurs, firsts_after, firsts}
 use Rattle.definitions.specs.TermMemory.{place}
-use Rattle.words.specs.Table.{add_name, added, number_in, first_names}
+use Rattle.words.specs.Names.{add_name, added, number_in, first_names}
 use Rattle.words.proofs.Numbers.{firsts_length}
 use Rattle.term_stack.specs.Standing.{Extends}
 

@@ -12,7 +12,7 @@ use Rattle.definitions.specs.TermText.{code_bytes}
 use Rattle.definitions.specs.TermMemory.{different_names, place, text_labels, label_size, labels_size, store_label, store_labels}
 use Rattle.definitions.proofs.PrefixCode.{code_nonempty}
 use Rattle.output.proofs.Writing.{sets_past}
-use Rattle.words.specs.declared.NameTable.{NameTable}
+use Rattle.words.specs.declared.name_table.NameTable.{NameTable}
 use Rattle.term_stack.specs.declared.Work.{Work}
 use Rattle.term_stack.specs.Turning.{scene_of}
 use Rattle.std.specs.Prelude.{Option, None, Some}
@@ -54,7 +54,7 @@ measured list text names code work (Some size) read =
         answer = w.answer;
         roomy = w.roomy;
         few = w.few;
-        table = w.table;
+        of_text = w.of_text;
         count_is = w.count_is;
         records_are = w.records_are;
         marks = w.marks;
@@ -68,8 +68,8 @@ not_both : {t : ProofTerm Name} {o : Outcome (ProofTerm Name)} → o ≡ accepte
 unfolding refuse
 not_both e f = let z : ◌≡◌ {A = ℕ} 0 1 = cc in omega (arith, z)
 
-module _ {t : ProofTerm Name} {list text : List ℕ} {names : NameTable} {work : Work} {size : ℕ} (first : Measured t list text names work size) where
-  pub no_labels : size ≡ 0 → (code : List ℕ) → WholeTerm t (scene_of list text names code code) work
+module _ {t : ProofTerm Name} {list : List ℕ} {names : NameTable} {work : Work} {size : ℕ} (first : Measured t list names work size) where
+  pub no_labels : size ≡ 0 → (code : List ℕ) → WholeTerm t (scene_of list names.text.now names code code) work
   unfolding scene_of
   no_labels e code =
       let w = first.whole in
@@ -77,7 +77,7 @@ module _ {t : ProofTerm Name} {list text : List ℕ} {names : NameTable} {work :
         answer = w.answer;
         roomy = w.roomy;
         few = w.few;
-        table = w.table;
+        of_text = w.of_text;
         count_is = w.count_is;
         records_are = w.records_are;
         marks = w.marks;
@@ -85,8 +85,8 @@ module _ {t : ProofTerm Name} {list text : List ℕ} {names : NameTable} {work :
       }
 
   pub read_again : (names' : NameTable) (code code' : List ℕ) (work' : Work) (r : Option TermSize)
-      → ReadEnds (scene_of list text names' code code') work' r
-      → WholeTerm t (scene_of list text names' code code') work'
+      → ReadEnds (scene_of list names.text.now names' code code') work' r
+      → WholeTerm t (scene_of list names.text.now names' code code') work'
   unfolding scene_of
   read_again names' code code' work' None none = absurd (not_both first.whole.answer none)
   read_again names' code code' work' (Some size) again =

@@ -11,7 +11,7 @@ use Rattle.definitions.specs.Answers.{named_term}
 use Rattle.definitions.specs.TermText.{nodes, term_text_limit, all_admitted, without_ids, Restorable}
 use Rattle.definitions.specs.TermMemory.{different_names, place, text_labels, records_of, store_labels, record_numbers, TermRoom, too_short, term_answer}
 use Rattle.definitions.proofs.PrefixCode.{Bytes}
-use Rattle.words.specs.declared.NameTable.{NameTable}
+use Rattle.words.specs.declared.name_table.NameTable.{NameTable}
 use Rattle.term_stack.specs.declared.Work.{Work}
 use Rattle.term_stack.specs.Standing.{ThereIs}
 unfoldable pub use Rattle.term_reader.specs.Whole.{size_of}
@@ -59,21 +59,21 @@ pub record Copyable (records names : ℕ) (size : TermSize) : Type 0 where
   pub names_fit : 4 * size.names ≤ names
 
 -- the term was measured, and no room is too short
-pub record Fitting (t : ProofTerm Name) (list text : List ℕ) (table : NameTable) (work : Work) (records names code : List ℕ) (size : TermSize) : Type 0 where
-  pub measured : Measured t list text table work size.code
+pub record Fitting (t : ProofTerm Name) (list : List ℕ) (table : NameTable) (work : Work) (records names code : List ℕ) (size : TermSize) : Type 0 where
+  pub measured : Measured t list table work size.code
   pub size_is : size ≡ size_of t
   pub fits : short_for (length records) (length names) (length code) size ≡ false
 
-unfoldable pub HasRoom : List ℕ → List ℕ → NameTable → Work → List ℕ → List ℕ → List ℕ → TermSize → Type 0
-HasRoom list text table work records names code size =
-    ThereIs (λ (t : ProofTerm Name). Fitting t list text table work records names code size)
+unfoldable pub HasRoom : List ℕ → NameTable → Work → List ℕ → List ℕ → List ℕ → TermSize → Type 0
+HasRoom list table work records names code size =
+    ThereIs (λ (t : ProofTerm Name). Fitting t list table work records names code size)
 
 -- and then it is handed over
 unfoldable pub HandsOver
-    : List ℕ → List ℕ → NameTable → Work → List ℕ → List ℕ → List ℕ → TermSize → List ℕ → List ℕ → List ℕ → Type 0
-HandsOver list text table work records names code size records' names' code' =
-    (t : ProofTerm Name) → Fitting t list text table work records names code size
-    → Answers (accepted t) text records names code records' names' code' (Ok size)
+    : List ℕ → NameTable → Work → List ℕ → List ℕ → List ℕ → TermSize → List ℕ → List ℕ → List ℕ → Type 0
+HandsOver list table work records names code size records' names' code' =
+    (t : ProofTerm Name) → Fitting t list table work records names code size
+    → Answers (accepted t) table.text.now records names code records' names' code' (Ok size)
 
 unfoldable pub room_of : List ℕ → List ℕ → List ℕ → TermRoom
 room_of records names code = record { records = length records; names = length names; code = length code }

@@ -1,16 +1,15 @@
 -- The end of the turns: no term, or a whole one in memory.
-use Rattle.std.specs.Prelude.{ℕ, ◌*◌, ◌<◌, ◌≤◌, ◌≡◌, true, false, List, [], length, get_or, take, Option, MatchOption, Result, MatchResult}
+use Rattle.std.specs.Prelude.{ℕ, ◌*◌, ◌<◌, ◌≤◌, ◌≡◌, true, false, List, [], length, get_or, take, Option, MatchOption}
 use Rattle.definitions.specs.declared.Refusal.{Refusal}
 use Rattle.definitions.specs.Outcome.{accepted, refuse}
 use Rattle.definitions.specs.CallerNames.{names_in}
 use Rattle.definitions.specs.Name.{Name}
 use Rattle.definitions.specs.Sheet.{marked}
 use Rattle.definitions.specs.Term.{ProofTerm, annotation_count}
-use Rattle.definitions.specs.TermText.{nodes}
+use Rattle.definitions.specs.TermText.{nodes, term_text_limit, all_admitted}
 use Rattle.definitions.specs.TermReader.{read_answer}
 use Rattle.definitions.specs.TermMemory.{different_names, place, text_labels, labels_size, records_of, store_labels}
-use Rattle.words.specs.declared.NameTable.{NameTable}
-use Rattle.words.specs.Table.{Table}
+use Rattle.words.specs.declared.name_table.NameTable.{NameTable}
 use Rattle.term_stack.specs.declared.Progress.{Progress}
 use Rattle.term_stack.specs.declared.Hand.{Hand}
 use Rattle.term_stack.specs.declared.State.{State}
@@ -42,7 +41,7 @@ pub record WholeTerm (t : ProofTerm Name) (z : Scene) (work : Work) : Type 0 whe
   pub answer : read_answer z.types z.text ≡ accepted t
   pub roomy : Roomy work
   pub few : nodes t ≤ 2048
-  pub table : Table z.names z.text
+  pub of_text : z.names.text.now ≡ z.text
   pub count_is : z.names.count ≡ length (different_names t)
   pub records_are : take (7 * nodes t) work.records ≡ records_of (place (different_names t)) 0 0 t
   pub marks : (i : ℕ) → i < length (different_names t) → marked z.names.pairs z.text i ≡ get_or (different_names t) i []
@@ -57,22 +56,30 @@ pub record Read (z : Scene) (work : Work) (size : TermSize) : Type 0 where
 abbrev pub ReadEnds : Scene → Work → Option TermSize → Type 0
 ReadEnds z work r = MatchOption r (Refuses z) (Read z work)
 
--- and with it the first pass
-abbrev pub Measures : List ℕ → List ℕ → NameTable → Work → Result TermSize Refusal → Type 0
-Measures list text names work r =
-    MatchResult r (λ size. Read (scene_of list text names [] []) work size × ReadBegins list text work)
-    (λ e. (read_answer (names_in list) text ≡ refuse 20 0) × (e ≡ record { number = 20; place = 0 }))
+-- the text is short enough to be read, and the list is admitted
+pub record Readable (list text : List ℕ) : Type 0 where
+  pub short : length text ≤ term_text_limit
+  pub listed : all_admitted (names_in list) ≡ true
+
+-- there is no term, and the answer is 20
+pub record NoTerm (list text : List ℕ) (e : Refusal) : Type 0 where
+  pub none : read_answer (names_in list) text ≡ refuse 20 0
+  pub is : e ≡ record { number = 20; place = 0 }
+
+-- the first pass has read the term
+abbrev pub Measures : List ℕ → List ℕ → NameTable → Work → TermSize → Type 0
+Measures list text names work size = Read (scene_of list text names [] []) work size
 
 -- the first pass has read the term, and its labels' code has this size
-pub record Measured (t : ProofTerm Name) (list text : List ℕ) (names : NameTable) (work : Work) (size : ℕ) : Type 0 where
-  pub begins : ReadBegins list text work
-  pub whole : WholeTerm t (scene_of list text names [] []) work
+pub record Measured (t : ProofTerm Name) (list : List ℕ) (names : NameTable) (work : Work) (size : ℕ) : Type 0 where
+  pub begins : ReadBegins list work
+  pub whole : WholeTerm t (scene_of list names.text.now names [] []) work
   pub size_is : size ≡ labels_size (text_labels t)
 
-unfoldable pub HasRead : List ℕ → List ℕ → NameTable → Work → ℕ → Type 0
-HasRead list text names work size = ThereIs (λ (t : ProofTerm Name). Measured t list text names work size)
+unfoldable pub HasRead : List ℕ → NameTable → Work → ℕ → Type 0
+HasRead list names work size = ThereIs (λ (t : ProofTerm Name). Measured t list names work size)
 
 -- the second pass has read the same term, and its labels' code is stored
-unfoldable pub Rereads : List ℕ → List ℕ → NameTable → List ℕ → Work → ℕ → NameTable → List ℕ → Work → Type 0
-Rereads list text names code work size names' code' work' =
-    (t : ProofTerm Name) → Measured t list text names work size → WholeTerm t (scene_of list text names' code code') work'
+unfoldable pub Rereads : List ℕ → NameTable → List ℕ → Work → ℕ → NameTable → List ℕ → Work → Type 0
+Rereads list names code work size names' code' work' =
+    (t : ProofTerm Name) → Measured t list names work size → WholeTerm t (scene_of list names.text.now names' code code') work'

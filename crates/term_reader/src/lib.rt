@@ -1,13 +1,12 @@
 // A term, read from strict text into lent memory: turn after turn, until there is no term or nothing waits for it.
 #![tactic(auto)]
 
-ghost use Rattle.std.specs.Prelude.{◌≡◌, true, [], ◌*◌, ◌<◌, ◌≤◌, ◌++◌, length, take, drop, MatchOption};
+ghost use Rattle.std.specs.Prelude.{◌≡◌, true, [], ◌*◌, ◌<◌, ◌≤◌, ◌++◌, length, take, drop, MatchOption, MatchResult};
 ghost use Rattle.definitions.specs.CallerNames.{names_in};
 ghost use Rattle.definitions.specs.TermReader.{read_answer};
-ghost use Rattle.term_stack.specs.Standing.{Roomy};
 ghost use Rattle.term_stack.specs.Turning.{scene_of};
 ghost use Rattle.term_reader.specs.Between.{goes_on, TurnFollows, GoesOn, ReadBegins};
-ghost use Rattle.term_reader.specs.Whole.{Unsettled, Settled, ReadEnds, Measures, HasRead, Rereads};
+ghost use Rattle.term_reader.specs.Whole.{Unsettled, Settled, ReadEnds, Readable, NoTerm, Measures, HasRead, Rereads};
 ghost use Rattle.term_reader.specs.Answered.{answer_of, Copyable, short_for, HasRoom, HandsOver};
 ghost use Rattle.term_reader.specs.Answered.{ReadsTerm, RestoresTerm};
 
@@ -45,52 +44,46 @@ fn goes_on(state: State) -> bool
 
 // One turn. As in `term_openings`, each function is lent the memories that it reads or writes and no others.
 fn turn(
-    text: &[u8],
     types: &[u8],
     names: &mut NameTable,
     code: &mut [u8],
     work: &mut Work,
     state: State,
 ) -> Option<State>
-    requires { TurnFollows types.now text.now names.old code.old work.old state × (goes_on state ≡ true) }
-    ensures { GoesOn types.now text.now names.old code.old work.old state
+    requires { TurnFollows types.now names.old code.old work.old state × (goes_on state ≡ true) }
+    ensures { GoesOn types.now names.old code.old work.old state
         names.new code.new work.new result }
 {
     match state {
-        State::Reading(s) => start(text, types, names, code, work, s),
-        State::Holding(s, hand) => chain(text, types, names, code, work, s, hand),
-        State::Giving(s, hand) => give(text, names, work, s, hand),
+        State::Reading(s) => start(types, names, code, work, s),
+        State::Holding(s, hand) => chain(types, names, code, work, s, hand),
+        State::Giving(s, hand) => give(names, work, s, hand),
     }
 }
 
 // The term that is whole and for which nothing waits: what is left of the text, and brackets around the whole, belong to no term.
-fn settle(text: &[u8], names: &NameTable, state: State) -> Option<TermSize>
-    ensures { MatchOption result (Unsettled (length text.now) state) (Settled (length text.now) names.now.count state) }
+fn settle(names: &NameTable, state: State) -> Option<TermSize>
+    ensures { MatchOption result (Unsettled (length names.now.text.now) state)
+        (Settled (length names.now.text.now) names.now.count state) }
 {
     let State::Giving(s, hand) = state else {
         return None;
     };
-    if s.at < text.len() || hand.own {
+    if s.at < names.text.len() || hand.own {
         return None;
     }
     Some(TermSize {
         nodes: s.used,
-        names: names.count,
+        names: usize::from(names.count),
         code: s.to,
         labels: hand.tally,
     })
 }
 
 // The term of a text: its records at the start of `work`, its names in their table, and its labels' code as far as there is room.
-fn read(
-    text: &[u8],
-    types: &[u8],
-    names: &mut NameTable,
-    code: &mut [u8],
-    work: &mut Work,
-) -> Option<TermSize>
-    requires { ReadBegins types.now text.now work.old }
-    ensures { ReadEnds (scene_of types.now text.now names.new code.old code.new) work.new result }
+fn read(types: &[u8], names: &mut NameTable, code: &mut [u8], work: &mut Work) -> Option<TermSize>
+    requires { ReadBegins types.now work.old }
+    ensures { ReadEnds (scene_of types.now names.old.text.now names.new code.old code.new) work.new result }
 {
     names.clear();
     let mut state = State::Reading(Progress {
@@ -101,44 +94,39 @@ fn read(
     });
     // How many turns there are shows only as they are taken.
     while goes_on(state) {
-        state = turn(text, types, names, code, work, state)?;
+        state = turn(types, names, code, work, state)?;
     }
-    settle(text, names, state)
+    settle(names, state)
+}
+
+// 20 where a text is too long to be read, or the list is not admitted.
+fn readable(text: &[u8], types: &[u8]) -> Result<(), Refusal>
+    ensures { MatchResult result (λ u. Readable types.now text.now) (NoTerm types.now text.now) }
+{
+    if TEXT_LIMIT < text.len() || !all_admitted(types) {
+        return Err(Reason::NoTerm.at(0));
+    }
+    Ok(())
 }
 
 // The first pass, which stores no code: 20 where there is no term.
-// Tried: with no `requires`, how long the arrays of the lent `work` are stays open, since nothing here makes slices of them.
-fn measure(
-    text: &[u8],
-    types: &[u8],
-    names: &mut NameTable,
-    work: &mut Work,
-) -> Result<TermSize, Refusal>
-    requires { Roomy work.old }
-    ensures { Measures types.now text.now names.new work.new result }
+// Tried: with no `requires` of `work`, how long its arrays are stays open, since nothing here makes slices of them.
+fn measure(types: &[u8], names: &mut NameTable, work: &mut Work) -> Result<TermSize, Refusal>
+    requires { ReadBegins types.now work.old }
+    ensures { MatchResult result (Measures types.now names.old.text.now names.new work.new)
+        (NoTerm types.now names.old.text.now) }
 {
-    let no_term = Reason::NoTerm.at(0);
-    if TEXT_LIMIT < text.len() || !all_admitted(types) {
-        return Err(no_term);
-    }
-    read(text, types, names, &mut [], work).ok_or(no_term)
+    read(types, names, &mut [], work).ok_or(Reason::NoTerm.at(0))
 }
 
 // The second pass, which stores the code of the labels, if they have any.
-fn store_code(
-    text: &[u8],
-    types: &[u8],
-    names: &mut NameTable,
-    code: &mut [u8],
-    work: &mut Work,
-    size: usize,
-)
-    requires { HasRead types.now text.now names.old work.old size }
-    ensures { Rereads types.now text.now names.old code.old work.old size
+fn store_code(types: &[u8], names: &mut NameTable, code: &mut [u8], work: &mut Work, size: usize)
+    requires { HasRead types.now names.old work.old size }
+    ensures { Rereads types.now names.old code.old work.old size
         names.new code.new work.new }
 {
     if size > 0 {
-        read(text, types, names, code, work);
+        read(types, names, code, work);
     }
 }
 
@@ -167,7 +155,6 @@ fn copy_out(records: &mut [u16], names: &mut [u8], work: &Work, table: &NameTabl
 // Hands the term over that was measured, in rooms that hold it. The three memories are lent by C one by one, and stand in no struct: where
 // one of several `&mut` ends, nothing ties the memories to what it held, as appended_parts says of two.
 fn hand_over(
-    text: &[u8],
     types: &[u8],
     table: &mut NameTable,
     work: &mut Work,
@@ -176,12 +163,12 @@ fn hand_over(
     code: &mut [u8],
     size: &TermSize,
 )
-    requires { HasRoom types.now text.now table.old work.old records.old names.old code.old size.now }
-    ensures { HandsOver types.now text.now table.old work.old
+    requires { HasRoom types.now table.old work.old records.old names.old code.old size.now }
+    ensures { HandsOver types.now table.old work.old
         records.old names.old code.old size.now
         records.new names.new code.new }
 {
-    store_code(text, types, table, code, work, size.code);
+    store_code(types, table, code, work, size.code);
     copy_out(records, names, work, table, size);
 }
 
@@ -189,9 +176,10 @@ fn hand_over(
 pub fn term_size(text: &[u8], types: &[u8]) -> Result<TermSize, Refusal>
     ensures { result ≡ answer_of (read_answer (names_in types.now) text.now) }
 {
+    readable(text, types)?;
     let mut work = Work::new();
-    let mut table = NameTable::new();
-    measure(text, types, &mut table, &mut work)
+    let mut table = NameTable::new(text);
+    measure(types, &mut table, &mut work)
 }
 
 // The term whose strict text these bytes are, without declarations; the datatypes are listed with newlines between their names. Its
@@ -211,14 +199,13 @@ pub fn read_term(
         records.old names.old code.old
         records.new names.new code.new result }
 {
+    readable(text, types)?;
     let mut work = Work::new();
-    let mut table = NameTable::new();
-    let size = measure(text, types, &mut table, &mut work)?;
+    let mut table = NameTable::new(text);
+    let size = measure(types, &mut table, &mut work)?;
     if too_short(records.len(), names.len(), code.len(), &size) {
         return Err(Reason::Room.at(0));
     }
-    hand_over(
-        text, types, &mut table, &mut work, records, names, code, &size,
-    );
+    hand_over(types, &mut table, &mut work, records, names, code, &size);
     Ok(size)
 }

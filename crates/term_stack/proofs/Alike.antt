@@ -6,7 +6,8 @@ use Rattle.definitions.specs.Name.{Name}
 use Rattle.definitions.specs.Term.{Label, NamedFunction, ProofTerm}
 use Rattle.reading_laws.specs.TermMachine.{Purpose, as_head, as_argument, as_body, Entry, in_bracket, second, function_body, case_head, case_first, case_second, let_head, let_body}
 use Rattle.reading_laws.specs.Marks.{Mark, entries_marks}
-use Rattle.words.specs.Table.{number_in, table_names}
+use Rattle.words.specs.Names.{number_in}
+use Rattle.words.specs.Table.{table_names}
 use Rattle.words.specs.declared.NamedFunction as called
 use Rattle.proof_term.specs.declared.nodes.Label as numbered
 use Rattle.term_stack.specs.declared.Progress.{Progress}
@@ -60,5 +61,5 @@ module _ {z : Scene} {work : Work} {s : Progress} {h : Hand} where
 
   pub entry_for : {e : stacked.Entry} (g : Gives z work s h e) → StandsFor e g.entry
   entry_for g =
-      let seen = table_names z.names z.text in
+      let seen = table_names z.names in
       rw (g.to.top (number_in seen) (extends_itself seen)) (stands_for (number_in seen) (entries_marks g.below) g.entry)

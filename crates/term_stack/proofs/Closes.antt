@@ -13,7 +13,8 @@ use Rattle.definitions.specs.TermReader.{Shown}
 use Rattle.definitions.specs.TermMemory.{parameter_label_kind, parameter_label_number, seven}
 use Rattle.reading_laws.specs.TermMachine.{Entry, function_body, case_second, let_body, give}
 use Rattle.reading_laws.specs.Marks.{called, label_marks, marks, entry_marks, entries_marks}
-use Rattle.words.specs.Table.{number_in, table_names}
+use Rattle.words.specs.Names.{number_in}
+use Rattle.words.specs.Table.{table_names}
 use Rattle.proof_term.specs.declared.nodes.Label as numbered
 use Rattle.proof_term.specs.declared.nodes.Node.TheVariants as made
 use Rattle.term_stack.specs.declared.Progress.{Progress}
@@ -47,11 +48,11 @@ label_count label = bool_byte (is_some label)
 -- A function.
 module _ {z : Scene} {work : Work} {s : Progress} {h : Hand} {name : ℕ} {label : Option numbered.Label} where
   module _ {k : List Entry} {x : Name} {l : Option (Label Name)} {a : Shown (ProofTerm Name)} (g : GivesTo k (function_body x l) a z work s h (FunctionBody name label)) where
-    function_name : (number : Name → ℕ) → Extends number (table_names z.names z.text) → name ≡ number x
+    function_name : (number : Name → ℕ) → Extends number (table_names z.names) → name ≡ number x
     unfolding entry_after
     function_name number i = let top = g.top number i in cc
 
-    function_label : (number : Name → ℕ) → Extends number (table_names z.names z.text)
+    function_label : (number : Name → ℕ) → Extends number (table_names z.names)
         → label ≡ numbered_parameter number (code_met (entries_marks k ++ (called x ∷ []))) l
     unfolding entry_after
     function_label number i = let top = g.top number i in cc
@@ -62,7 +63,7 @@ module _ {z : Scene} {work : Work} {s : Progress} {h : Hand} {name : ℕ} {label
         let ms = entries_marks k in
         let v = ms ++ (called x ∷ label_marks l) in
         let to = code_met (ms ++ (called x ∷ [])) in
-        let seen = table_names z.names z.text in
+        let seen = table_names z.names in
         let m = g.hand.nest in
         let once = labelled_is (number_in seen) to l (function_label (number_in seen) (extends_itself seen)) in
         let tally : label_count label + h.tally ≡ is_labelled l + annotation_count a.shown = cc (once, g.hand.tally) in
@@ -112,7 +113,7 @@ module _ {z : Scene} {work : Work} {s : Progress} {h : Hand} {m n : ℕ} {f : Pa
   module _ {k : List Entry} {x y : Name} {b : ProofTerm Name} {a : Shown (ProofTerm Name)} (g : GivesTo k (let_body x y b) a z work s h (LetBody m n f)) where
     let_part : f ≡ part_after (entries_marks k ++ (called x ∷ called y ∷ [])) b
     unfolding entry_after
-    let_part = let seen = table_names z.names z.text in let top = g.top (number_in seen) (extends_itself seen) in cc
+    let_part = let seen = table_names z.names in let top = g.top (number_in seen) (extends_itself seen) in cc
 
     let_grows : Grows k (LetIn x y b a.shown) z work s (node_row (made.LetIn m n f.root (s.used - 1)) (f.tally + h.tally)) (over Block f.nest f.tally h)
     unfolding entry_marks entry_records entry_after part_after term_records records_after marks form as_form term_nesting annotation_count node_row root_after seven
@@ -164,13 +165,13 @@ module _ {z : Scene} {work : Work} {s : Progress} {h : Hand} {m n : ℕ} {f o : 
   module _ {k : List Entry} {b c : ProofTerm Name} {x y : Name} {a : Shown (ProofTerm Name)} (g : GivesTo k (case_second b x c y) a z work s h (CaseSecond f m o n)) where
     head_part : f ≡ part_after (entries_marks k) b
     unfolding entry_after
-    head_part = let seen = table_names z.names z.text in let top = g.top (number_in seen) (extends_itself seen) in cc
+    head_part = let seen = table_names z.names in let top = g.top (number_in seen) (extends_itself seen) in cc
 
     left_part : o ≡ part_after (entries_marks k ++ (marks b ++ (called x ∷ []))) c
     unfolding entry_after
-    left_part = let seen = table_names z.names z.text in let top = g.top (number_in seen) (extends_itself seen) in cc
+    left_part = let seen = table_names z.names in let top = g.top (number_in seen) (extends_itself seen) in cc
 
-    case_names : (number : Name → ℕ) → Extends number (table_names z.names z.text) → (m ≡ number x) × (n ≡ number y)
+    case_names : (number : Name → ℕ) → Extends number (table_names z.names) → (m ≡ number x) × (n ≡ number y)
     unfolding entry_after
     case_names number i = let top = g.top number i in (cc, cc)
 

@@ -10,7 +10,7 @@ use Rattle.definitions.specs.TermText.{nodes}
 use Rattle.definitions.specs.TermMemory.{label_size, labels_size, parameter_labels, store_label, store_labels}
 use Rattle.reading_laws.specs.Marks.{Mark, called, labelled, node, label_marks}
 use Rattle.reading_laws.proofs.LabelCode.{even_label}
-use Rattle.words.specs.Table.{added, number_in}
+use Rattle.words.specs.Names.{added, number_in}
 use Rattle.words.proofs.Added.{met_added}
 use Rattle.term_stack.specs.Numbers.{labels_met, code_met}
 use Rattle.term_stack.specs.Standing.{Extends}

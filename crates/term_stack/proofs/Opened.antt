@@ -32,7 +32,7 @@ pub record Opens (k : List Entry) (entry : Entry) (z : Scene) (work : Work) (s :
   pub stored : Stored met records (λ number. stack_of number k) z work s.used s.depth s.to
   pub marks_are : met ≡ entries_marks k ++ entry_marks entry
   pub records_are : (number : Name → ℕ) → records number ≡ stack_records number k ++ entry_records number (entries_marks k) entry
-  pub entry_is : (number : Name → ℕ) → Extends number (table_names z.names z.text) → e ≡ entry_after number (entries_marks k) entry
+  pub entry_is : (number : Name → ℕ) → Extends number (table_names z.names) → e ≡ entry_after number (entries_marks k) entry
 
 module _ {k : List Entry} {entry : Entry} {z : Scene} {work : Work} {s : Progress} {e : reader.Entry} (o : Opens k entry z work s e)
     (comes : Comes z.types z.text (Some (reading (entry ∷ k) (drop s.at z.text)))) where

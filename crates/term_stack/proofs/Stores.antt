@@ -10,7 +10,8 @@ use Rattle.definitions.specs.Name.{Name}
 use Rattle.definitions.specs.TermMemory.{store_labels}
 use Rattle.reading_laws.specs.Marks.{Mark, node, nodes_met, names_met, limited_met}
 use Rattle.reading_laws.proofs.OnTheWay.{nodes_both, names_both, limited_both}
-use Rattle.words.specs.Table.{added, table_names}
+use Rattle.words.specs.Names.{added}
+use Rattle.words.specs.Table.{table_names}
 use Rattle.term_stack.specs.declared.Entry.{Entry}
 use Rattle.term_stack.specs.declared.Work.{Work}
 use Rattle.term_stack.specs.Numbers.{labels_met, code_met}
@@ -27,7 +28,7 @@ sets_here l vs i n fits e =
 module _ {ms : List Mark} {records : (Name → ℕ) → List ℕ} {stack : (Name → ℕ) → List Entry} {z : Scene} {work : Work} {used depth to : ℕ} where
   -- a record
   pub stored_record : (here : (Name → ℕ) → List ℕ) (vs : List ℕ) → Stored ms records stack z work used depth to → used < 2048 → length vs ≡ 7
-      → ((number : Name → ℕ) → Extends number (table_names z.names z.text) → vs ≡ here number)
+      → ((number : Name → ℕ) → Extends number (table_names z.names) → vs ≡ here number)
       → Stored (ms ++ (node ∷ [])) (λ number. records number ++ here number) stack z (record work { records = sets work.records (7 * used) vs }) (used + 1) depth to
   unfolding nodes_met names_met limited_met labels_met code_met
   stored_record here vs st h long is =
@@ -41,7 +42,7 @@ module _ {ms : List Mark} {records : (Name → ℕ) → List ℕ} {stack : (Name
         used_is = let n = nodes_both ms (node ∷ []) in let u = st.used_is in omega (arith, n, u);
         to_is = st.to_is ∙ sym (code_node ms);
         limited = limited_both ms (node ∷ []) st.limited refl;
-        table = st.table;
+        of_text = st.of_text;
         names_are = st.names_are ∙ ap (added []) (sym (names_both ms (node ∷ []) ∙ append-nil (names_met ms)));
         lies = λ number e.
             let l = st.lies number e in
@@ -54,7 +55,7 @@ module _ {ms : List Mark} {records : (Name → ℕ) → List ℕ} {stack : (Name
 
   -- an entry
   pub stored_entry : (here : (Name → ℕ) → Entry) (entry : Entry) → Stored ms records stack z work used depth to → depth < 767
-      → ((number : Name → ℕ) → Extends number (table_names z.names z.text) → entry ≡ here number)
+      → ((number : Name → ℕ) → Extends number (table_names z.names) → entry ≡ here number)
       → Stored ms records (λ number. stack number ++ (here number ∷ [])) z (record work { entries = set work.entries depth entry }) used (depth + 1) to
   stored_entry here entry st h is =
       let places = st.places in
@@ -66,7 +67,7 @@ module _ {ms : List Mark} {records : (Name → ℕ) → List ℕ} {stack : (Name
         used_is = st.used_is;
         to_is = st.to_is;
         limited = st.limited;
-        table = st.table;
+        of_text = st.of_text;
         names_are = st.names_are;
         lies = λ number e.
             let l = st.lies number e in
@@ -88,7 +89,7 @@ module _ {ms : List Mark} {records : (Name → ℕ) → List ℕ} {stack : (Name
     used_is = st.used_is;
     to_is = st.to_is;
     limited = st.limited;
-    table = st.table;
+    of_text = st.of_text;
     names_are = st.names_are;
     lies = λ number x. let l = st.lies number x in record { records_are = l.records_are ∙ same number; stack_is = l.stack_is; code_is = l.code_is };
   })
@@ -107,7 +108,7 @@ module _ {ms : List Mark} {records : (Name → ℕ) → List ℕ} {z : Scene} {w
       used_is = st.used_is;
       to_is = st.to_is;
       limited = st.limited;
-      table = st.table;
+      of_text = st.of_text;
       names_are = st.names_are;
       lies = λ number e.
           let l = st.lies number e in
@@ -121,7 +122,7 @@ module _ {ms : List Mark} {records : (Name → ℕ) → List ℕ} {z : Scene} {w
           };
     }
 
-    pub top_is : (d : Entry) (number : Name → ℕ) → Extends number (table_names z.names z.text) → get_or work.entries below d ≡ here number
+    pub top_is : (d : Entry) (number : Name → ℕ) → Extends number (table_names z.names) → get_or work.entries below d ≡ here number
     top_is d number e =
         let within : below ≡ length (stack number) + 0 = omega (arith, long number) in
         sym (get_or-take depth work.entries below d (omega (arith, some)))

@@ -10,8 +10,9 @@ use Rattle.definitions.specs.TermMemory.{store_labels}
 use Rattle.reading_laws.specs.TermMachine.{Entry, State, reading, holding, giving}
 use Rattle.reading_laws.specs.Marks.{Mark, marks, entries_marks, nodes_met, names_met, limited_met}
 use Rattle.reading_laws.proofs.OnTheWay.{Reached}
-use Rattle.words.specs.declared.NameTable.{NameTable}
-use Rattle.words.specs.Table.{added, number_in, table_names, Table}
+use Rattle.words.specs.declared.name_table.NameTable.{NameTable}
+use Rattle.words.specs.Names.{added, number_in}
+use Rattle.words.specs.Table.{table_names}
 use Rattle.term_stack.specs.declared.Progress.{Progress}
 use Rattle.term_stack.specs.declared.Hand.{Hand}
 use Rattle.term_stack.specs.declared.Entry as reader
@@ -58,9 +59,9 @@ pub record Stored (ms : List Mark) (records : (Name → ℕ) → List ℕ) (stac
   pub used_is : used ≡ nodes_met ms
   pub to_is : to ≡ code_met ms
   pub limited : limited_met ms ≡ true
-  pub table : Table z.names z.text
-  pub names_are : table_names z.names z.text ≡ added [] (names_met ms)
-  pub lies : (number : Name → ℕ) → Extends number (table_names z.names z.text)
+  pub of_text : z.names.text.now ≡ z.text
+  pub names_are : table_names z.names ≡ added [] (names_met ms)
+  pub lies : (number : Name → ℕ) → Extends number (table_names z.names)
       → Lies number ms (records number) (stack number) z work used depth
 
 -- form, brackets, nesting and label count are those of the term

@@ -1,7 +1,7 @@
 -- A turn that reads text, for every code that the lent memory held before the reading.
 use Rattle.std.specs.Prelude.{ℕ, List, Option, MatchOption}
 use Rattle.definitions.specs.CallerNames.{names_in}
-use Rattle.words.specs.declared.NameTable.{NameTable}
+use Rattle.words.specs.declared.name_table.NameTable.{NameTable}
 use Rattle.term_stack.specs.declared.Progress.{Progress}
 use Rattle.term_stack.specs.declared.State.{State}
 use Rattle.term_stack.specs.declared.Work.{Work}
@@ -17,12 +17,13 @@ abbrev pub Standpoint : Type 1
 Standpoint = Scene → Work → Progress → Type 0
 
 -- a turn may begin: the machine is there, for some code before the reading
-unfoldable pub TurnBegins : Standpoint → List ℕ → List ℕ → NameTable → List ℕ → Work → Progress → Type 0
-TurnBegins At list text names code work s = ThereIs (λ (before : List ℕ). At (scene_of list text names before code) work s)
+unfoldable pub TurnBegins : Standpoint → List ℕ → NameTable → List ℕ → Work → Progress → Type 0
+TurnBegins At list names code work s = ThereIs (λ (before : List ℕ). At (scene_of list names.text.now names before code) work s)
 
 -- the turn has ended: wherever the machine was there, there is no term, or it is nearer to its end now
 unfoldable pub TurnEnds
-    : Standpoint → ℕ → List ℕ → List ℕ → NameTable → List ℕ → Work → Progress → NameTable → List ℕ → Work → Option State → Type 0
-TurnEnds At more list text names code work s names' code' work' r =
-    (before : List ℕ) → At (scene_of list text names before code) work s
-    → MatchOption r (Refuses (scene_of list text names' before code')) (Turned (scene_of list text names' before code') work' (left_at text s more))
+    : Standpoint → ℕ → List ℕ → NameTable → List ℕ → Work → Progress → NameTable → List ℕ → Work → Option State → Type 0
+TurnEnds At more list names code work s names' code' work' r =
+    (before : List ℕ) → At (scene_of list names.text.now names before code) work s
+    → MatchOption r (Refuses (scene_of list names.text.now names' before code'))
+    (Turned (scene_of list names.text.now names' before code') work' (left_at names.text.now s more))

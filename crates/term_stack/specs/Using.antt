@@ -76,7 +76,7 @@ pub record Leaf (z : Scene) (work : Work) (s : Progress) (leaf : Node) (q : read
       Stored (entries_marks entries ++ (purpose_marks purpose ++ names)) (λ number. stack_records number entries ++ purpose_records number (entries_marks entries) purpose)
       (λ number. stack_of number entries) z work s.used s.depth s.to
   pub marks_are : marks term ≡ names ++ (node ∷ [])
-  pub row_is : (number : Name → ℕ) → Extends number (table_names z.names z.text)
+  pub row_is : (number : Name → ℕ) → Extends number (table_names z.names)
       → node_row leaf 0 ≡ records_after number (entries_marks entries ++ purpose_marks purpose) term
   pub form_is : form term ≡ closed
   pub nest_is : term_nesting term ≡ 1
@@ -92,7 +92,7 @@ pub record GivesTo (k : List Entry) (entry : Entry) (term : Shown (ProofTerm Nam
       Stored ((entries_marks k ++ entry_marks entry) ++ marks term.shown)
       (λ number. (stack_records number k ++ entry_records number (entries_marks k) entry) ++ records_after number (entries_marks k ++ entry_marks entry) term.shown)
       (λ number. stack_of number k) z work s.used s.depth s.to
-  pub top : (number : Name → ℕ) → Extends number (table_names z.names z.text) → e ≡ entry_after number (entries_marks k) entry
+  pub top : (number : Name → ℕ) → Extends number (table_names z.names) → e ≡ entry_after number (entries_marks k) entry
 
 pub record Gives (z : Scene) (work : Work) (s : Progress) (h : Hand) (e : entries.Entry) : Type 0 where
   pub below : List Entry
@@ -109,7 +109,7 @@ pub record Grows (k : List Entry) (t : ProofTerm Name) (z : Scene) (work : Work)
   pub stored : Stored met records (λ number. stack_of number k) z work s.used s.depth s.to
   pub marks_are : met ++ (node ∷ []) ≡ entries_marks k ++ marks t
   pub last : (Name → ℕ) → List ℕ
-  pub row_is : (number : Name → ℕ) → Extends number (table_names z.names z.text) → row ≡ last number
+  pub row_is : (number : Name → ℕ) → Extends number (table_names z.names) → row ≡ last number
   pub long : length row ≡ 7
   pub records_are : (number : Name → ℕ) → records number ++ last number ≡ term_records number k t
   pub form_is : h.form ≡ as_form (form t)

@@ -1,11 +1,10 @@
 -- What stands before the branch is read, and an entry waits for it.
 use mathlib.Core.Path.{◌≡◌, refl}
-use native.Mathlib.Omega.{arith}
 use Rattle.term_stack.proofs.Closes.{given_small}
 use Rattle.term_stack.proofs.Alike.{entry_for}
 use Rattle.term_openings.specs.Beginning.{with_names, NamesBegin, NamesEnd}
 use Rattle.term_openings.proofs.Noting.{noting}
-use Rattle.term_closings.proofs.Branches.{branch_word, branch_next, branch_small, next_branch, branch_not_due, branch_stuck, branch_turned}
+use Rattle.term_closings.proofs.Branches.{branch_word, branch_next, next_branch, branch_not_due, branch_stuck, branch_turned}
 use Rattle.term_closings.proofs.give_branch.Goals as goal
 use Rattle.term_closings.proofs.give_branch.Goals.{After-read_branch, After-enter, in-None, in-Some, in-None-before, in-Some-before}
 
@@ -24,8 +23,7 @@ returns-in_err-due c z g =
 pub read_branch-requires : goal.read_branch-requires
 unfolding NamesBegin with_names
 read_branch-requires c =
-    let to = c.requires.holds.to in
-    (to.stored.table, to.placed.within, to.comes.reached.short)
+    c.requires.holds.to.placed.within
 
 pub returns-in_err-branch : goal.returns-in_err-branch
 unfolding NamesEnd with_names
@@ -35,11 +33,6 @@ returns-in_err-branch c z g =
 pub waiting-part-requires : goal.waiting-part-requires
 unfolding NamesBegin with_names
 waiting-part-requires c = given_small c.requires.holds
-
-pub overflow_cast-name : goal.overflow_cast-name
-overflow_cast-name c =
-    let (x, given) = c.in_ok-branch.ensures in
-    omega (arith, branch_small given)
 
 pub returns : goal.returns
 unfolding NamesEnd with_names noting

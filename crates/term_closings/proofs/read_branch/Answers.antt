@@ -3,7 +3,7 @@ use Rattle.term_closings.proofs.Branches.{branch_no_name, branch_no_arrow, branc
 use Rattle.term_closings.proofs.read_branch.Goals as goal
 
 pub returns-in_err-name : goal.returns-in_err-name
-returns-in_err-name c = rw c.from_residual.ensures (branch_no_name c.args.word.now c.args.text.now c.args.names.now c.args.at c.in_err-name.ensures)
+returns-in_err-name c = rw c.from_residual.ensures (branch_no_name c.args.word.now c.args.names.now.text.now c.args.names.now c.args.at c.in_err-name.ensures)
 
 pub returns-in_err-end : goal.returns-in_err-end
 returns-in_err-end c =

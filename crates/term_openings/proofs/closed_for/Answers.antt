@@ -34,7 +34,7 @@ unfolding NamesBegin TextBegins with_names with_text between
 open_for-requires c =
     let pre = c.requires in
     let given = c.args in (
-      record { value = with_names pre.value given.text.now given.names.now; holds = pre.holds },
+      record { value = with_names pre.value given.names.now.text.now given.names.now; holds = pre.holds },
       wordless c.word_end-end.ensures c.in_default.ensures
           (eq_name_is _ _ ∙ (sym (rw c.as_slice.ensures at c.eq.ensures) ∙ c.if-eq.false)),
     )
@@ -43,4 +43,4 @@ pub returns : goal.returns
 unfolding NamesEnd TextEnds with_names with_text
 returns c z closed =
     let given = c.args in
-    c.open_for.ensures (with_names z given.text.now given.names.now) closed
+    c.open_for.ensures (with_names z given.names.now.text.now given.names.now) closed

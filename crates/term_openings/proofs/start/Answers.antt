@@ -15,7 +15,7 @@ use Rattle.term_openings.proofs.start.Goals.{After-start_of-first}
 abbrev scene : After-start_of-first → List ℕ → Scene
 scene c before =
     let given = c.args in
-    scene_of given.types.now given.text.now given.names.now before given.code.now
+    scene_of given.types.now given.names.now.text.now given.names.now before given.code.now
 
 pub word_end-end-requires : goal.word_end-end-requires
 unfolding TurnBegins scene_of

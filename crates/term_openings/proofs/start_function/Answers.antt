@@ -1,6 +1,5 @@
 -- The parameter, its label, and then an entry for the body.
 use native.Mathlib.Omega.{arith}
-use Rattle.definitions.specs.Sheet.{name_limit}
 use Rattle.term_stack.specs.Standing.{left_at}
 use Rattle.term_stack.specs.Turning.{scene_of, TurnBegins, TurnEnds}
 use Rattle.term_stack.proofs.Opened.{opens}
@@ -11,8 +10,7 @@ use Rattle.term_openings.proofs.start_function.Goals as goal
 pub name_after-requires : goal.name_after-requires
 unfolding TurnBegins scene_of
 name_after-requires c =
-    let pre = c.requires.holds in
-    (pre.stored.table, pre.placed.within, pre.comes.reached.short)
+    c.requires.holds.placed.within
 
 pub returns-in_err-name : goal.returns-in_err-name
 unfolding TurnEnds scene_of
@@ -27,15 +25,15 @@ unfolding TurnEnds scene_of
 returns-in_err-read c before started =
     rw c.from_residual-in_err-read.ensures (label_not started c.in_ok-name.ensures c.in_err-read.ensures)
 
+pub expect-requires : goal.expect-requires
+expect-requires c =
+    let read = c.in_ok-read.ensures.holds in
+    rw c.in_ok-name.ensures.holds.noted.same_text at read.within
+
 pub returns-in_err-body : goal.returns-in_err-body
 unfolding TurnEnds scene_of
 returns-in_err-body c before started =
     rw c.from_residual-in_err-body.ensures (arrow_not started c.in_ok-name.ensures c.in_ok-read.ensures c.in_err-body.ensures)
-
--- the number is small
-pub overflow_cast-entry : goal.overflow_cast-entry
-unfolding name_limit
-overflow_cast-entry c = let there = c.in_ok-name.ensures.holds in omega (arith, there.below, there.noted.table.few)
 
 pub returns : goal.returns
 unfolding TurnEnds scene_of noting left_at

@@ -1,6 +1,5 @@
 -- Two names, each behind its bytes, and then an entry for the head.
 use native.Mathlib.Omega.{arith}
-use Rattle.definitions.specs.Sheet.{name_limit}
 use Rattle.term_stack.specs.Standing.{left_at}
 use Rattle.term_stack.proofs.Opened.{opens}
 use Rattle.term_openings.specs.Beginning.{with_names, NamesBegin, NamesEnd}
@@ -11,8 +10,7 @@ use Rattle.term_openings.proofs.start_let.Goals as goal
 pub name_after-requires : goal.name_after-requires
 unfolding NamesBegin with_names
 name_after-requires c =
-    let pre = c.requires.holds in
-    (pre.stored.table, pre.placed.within, pre.comes.reached.short)
+    c.requires.holds.placed.within
 
 pub returns-in_err-first : goal.returns-in_err-first
 unfolding NamesEnd with_names
@@ -22,26 +20,22 @@ pub name_after-requires-2 : goal.name_after-requires-2
 unfolding NamesBegin with_names
 name_after-requires-2 c =
     let first = c.in_ok-first.ensures.holds in
-    (first.noted.table, first.within, c.requires.holds.comes.reached.short)
+    rw first.noted.same_text first.within
 
 pub returns-in_err-second : goal.returns-in_err-second
 unfolding NamesEnd with_names
 returns-in_err-second c z started =
     rw c.from_residual-in_err-second.ensures (second_not started c.in_ok-first.ensures c.in_err-second.ensures)
 
+pub expect-requires : goal.expect-requires
+expect-requires c =
+    let second = c.in_ok-second.ensures.holds in
+    rw c.in_ok-first.ensures.holds.noted.same_text at second.within
+
 pub returns-in_err-head : goal.returns-in_err-head
 unfolding NamesEnd with_names
 returns-in_err-head c z started =
     rw c.from_residual-in_err-head.ensures (let_not started c.in_ok-first.ensures c.in_ok-second.ensures c.in_err-head.ensures)
-
--- the numbers of the names are small
-pub overflow_cast-entry : goal.overflow_cast-entry
-unfolding name_limit
-overflow_cast-entry c = let x = c.in_ok-first.ensures.holds in omega (arith, x.below, x.noted.table.few)
-
-pub overflow_cast-entry-2 : goal.overflow_cast-entry-2
-unfolding name_limit
-overflow_cast-entry-2 c = let y = c.in_ok-second.ensures.holds in omega (arith, y.below, y.noted.table.few)
 
 pub returns : goal.returns
 unfolding NamesEnd with_names noting left_at

@@ -1,34 +1,7 @@
--- A text that is too long and a list that is not admitted have no term, and else the turns tell.
-use mathlib.Core.Path.{◌≡◌, sym, ◌∙◌}
-use Rattle.definitions.specs.CallerNames.{names_in}
-use Rattle.definitions.specs.Outcome.{refuse}
-use Rattle.definitions.specs.TermReader.{read_answer}
-use Rattle.definitions.specs.TermText.{term_text_limit}
-use Rattle.term_reader.proofs.Handed.{long_refused, unlisted_refused, measures}
+-- The turns tell.
+use Rattle.term_reader.proofs.Handed.{measures}
 use Rattle.term_reader.proofs.Passes.{measured}
 use Rattle.term_reader.proofs.measure.Goals as goal
-use Rattle.term_reader.proofs.measure.Goals.{then-text-gt-TEXT_LIMIT-via-then-text-gt-TEXT_LIMIT, then-text-gt-TEXT_LIMIT-via-else-text-gt-TEXT_LIMIT+then-not-all_admitted}
-
-pub returns-then-text-gt-TEXT_LIMIT : goal.returns-then-text-gt-TEXT_LIMIT
-unfolding term_text_limit
-returns-then-text-gt-TEXT_LIMIT c =
-    let none : read_answer (names_in c.args.types.now) c.args.text.now ≡ refuse 20 0 =
-    elim c.then-text-gt-TEXT_LIMIT.branch [
-      | then-text-gt-TEXT_LIMIT-via-then-text-gt-TEXT_LIMIT w ↦ long_refused _ _ w.if-text-gt-TEXT_LIMIT.true
-      | then-text-gt-TEXT_LIMIT-via-else-text-gt-TEXT_LIMIT+then-not-all_admitted w ↦ unlisted_refused _ _ (sym w.all_admitted.ensures ∙ w.if-not-all_admitted.true)
-    ] in
-    (none, c.at-no_term.ensures)
-
-pub read-requires : goal.read-requires
-unfolding term_text_limit
-read-requires c = record {
-  short = c.if-text-gt-TEXT_LIMIT.false;
-  listed = sym c.all_admitted.ensures ∙ c.if-not-all_admitted.false;
-  roomy = c.requires;
-}
 
 pub returns : goal.returns
-unfolding term_text_limit
-returns c =
-    measures _ _ _ _ _ c.if-text-gt-TEXT_LIMIT.false (sym c.all_admitted.ensures ∙ c.if-not-all_admitted.false)
-    (measured _ _ _ _ _ _ c.read.ensures) c.at-no_term.ensures c.ok_or.ensures.value
+returns c = measures _ _ _ _ _ (measured _ _ _ _ _ _ c.read.ensures) c.at.ensures c.ok_or.ensures.value

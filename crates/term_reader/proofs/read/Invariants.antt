@@ -4,7 +4,7 @@ use Rattle.term_reader.proofs.Turns.{Looping}
 use Rattle.term_reader.proofs.read.Given as goal
 
 abbrev pub invariant-loop-names : goal.invariant-loop-names
-invariant-loop-names l = Looping l.types l.text l.initial.code l.names l.code l.work l.state
+invariant-loop-names l = Looping l.types l.initial.names.text.now l.initial.code l.names l.code l.work l.state
 
 abbrev pub decreases-loop-names : goal.decreases-loop-names
-decreases-loop-names l = left_of l.text l.state
+decreases-loop-names l = left_of l.initial.names.text.now l.state
