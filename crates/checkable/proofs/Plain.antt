@@ -9,11 +9,10 @@ use Rattle.definitions.specs.Prop.{Prop, True, False, Binary, Atom, Quantified, 
 use Rattle.definitions.specs.Code.{encode, Codable}
 use Rattle.definitions.specs.Sound.{all_instantiated, is_quantifier_free}
 use Rattle.definitions.proofs.PrefixCode.{code_nonempty}
-use Rattle.prefix_code.specs.Scan.{Stands, Ends, parameters_coding}
+use Rattle.prefix_code.specs.Scan.{Stands, Starts, Ends, parameters_coding}
 use Rattle.prefix_code.specs.Head.{Head, TrueHead, FalseHead, BinaryHead, AtomHead, QuantifiedHead, encode_head, head_coding}
-use Rattle.prefix_code.proofs.Positions.{extent, byte_at}
+use Rattle.prefix_code.proofs.Positions.{byte_at}
 use Rattle.prefix_code.proofs.Heads.{head_bytes, atom_bytes, quantified_bytes, connective_byte_lem, quantifier_byte_lem}
-use Rattle.prefix_code.proofs.Propositions.{headed}
 use Rattle.renumbering.specs.Renumbered.{Whole}
 use Rattle.prefix_code.specs.Row.{encode_row}
 use Rattle.prefix_code.proofs.Rows.{head_of, parts}
@@ -118,18 +117,13 @@ module _ {names : ℕ} {code : List ℕ} {i : ℕ} (w : Looking names code i) (l
   ahead : (p : Prop ℕ) → Codable names p → code ≡ encode p → (ps : List (Prop ℕ)) × FirstHead names code i ps × (is_quantifier_free p ≡ all_free ps)
   ahead p g e = let (ps, r, same) = w.left p g e in (ps, first_head names code i ps l r, same)
 
-  pub looking_head : Whole names code → SomeHead code i
-  looking_head v =
+  pub looking_starts : Whole names code → Starts (head_coding names) code i
+  looking_starts v =
       let (ps, f, same) = ahead v.value v.codable v.coded in
-      record { names = names; value = head_of f.proposition; rest = encode_row (parts f.proposition ++ f.others); stands = f.stands }
+      record { value = head_of f.proposition; rest = row (parts f.proposition ++ f.others); stands = f.stands }
 
-  pub looking_ends : Whole names code → {j : ℕ} → Ends (head_coding names) code i j → (j ≤ length code) × (i < j)
-  unfolding Stands
-  looking_ends v {j} ends =
-      let (ps, f, same) = ahead v.value v.codable v.coded in
-      let here = ends.found (head_of f.proposition) (encode_row (parts f.proposition ++ f.others)) f.stands in
-      let within : j ≤ length code = omega (arith, here, extent code i (encode_head (head_of f.proposition)) (encode_row (parts f.proposition ++ f.others)) w.inside f.stands.1) in
-      (within, (headed names code i j ends within).further)
+  pub looking_head : Whole names code → SomeHead code i
+  looking_head v = let head = looking_starts v in record { names = names; value = head.value; rest = head.rest; stands = head.stands }
 
   module _ {r : Bool} (plain : (names : ℕ) (h : Head) (rest : List ℕ) → Stands (head_coding names) code i h rest → r ≡ is_plain_head h) where
     -- a head that is not plain
@@ -141,9 +135,9 @@ module _ {names : ℕ} {code : List ℕ} {i : ℕ} (w : Looking names code i) (l
         sym (same ∙ ap all_free f.is ∙ ap (λ (b : Bool). b && all_free f.others) free)
 
     -- a plain head: its parts are left
-    pub looking_next : Whole names code → r ≡ true → {j : ℕ} → Ends (head_coding names) code i j → Looking names code j
-    looking_next v is {j} ends = record {
-      inside = (looking_ends v ends).0;
+    pub looking_next : r ≡ true → {j : ℕ} → Ends (head_coding names) code i j → Looking names code j
+    looking_next is {j} ends = record {
+      inside = ends.inside;
       left = λ p g e.
           let (ps, f, same) = ahead p g e in
           let q = f.proposition in

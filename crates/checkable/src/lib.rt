@@ -17,7 +17,7 @@ ghost use Rattle.renumbering.specs.Renumbered.{Whole};
 ghost use Rattle.checkable.specs.Plain.{is_plain_head, SomeParameters, SomeHead};
 ghost use Rattle.checkable.specs.Terms.{own_checkable, LabelsPresent};
 
-use prefix_code::{Head, ParameterKind, head_end, scan};
+use prefix_code::{Head, ParameterKind, known_end, known_head_end};
 use proof_term::{Kind, Label, node_at, parts_at};
 
 // Code and the count of its names stand loose, as in prefix_code.
@@ -60,7 +60,7 @@ pub fn is_quantifier_free(code: &[u8], names: usize) -> bool
         if !is_plain_head(code, i) {
             return false;
         }
-        i = head_end(code, i, names);
+        i = known_head_end(code, i, names);
     }
     true
 }
@@ -70,7 +70,7 @@ pub fn is_free_at(code: &[u8], at: usize, names: usize) -> bool
     requires { Present names code.now at }
     ensures { result ≡ is_quantifier_free (prop_at names code.now at) }
 {
-    let end = scan(code, at, names);
+    let end = known_end(code, at, names);
     is_quantifier_free(&code[at..end], names)
 }
 

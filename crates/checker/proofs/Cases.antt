@@ -12,7 +12,6 @@ use Rattle.definitions.specs.Code.{encode}
 use Rattle.prefix_code.specs.PropAt.{prop_at}
 use Rattle.prefix_code.specs.Scan.{Scanned}
 use Rattle.prefix_code.specs.declared.Connective.TheVariants.{Or}
-use Rattle.prefix_code.proofs.Reading.{inside}
 use Rattle.proof_term.specs.declared.nodes.Kind.TheVariants as variant
 use Rattle.proof_term.proofs.Views.{number_of_kind}
 use Rattle.proof_term.specs.Records.{field_at}
@@ -86,9 +85,6 @@ module _ {records code : List ℕ} {stride : ℕ} {scope : List (Option ℕ)} {m
 
         pub sides : {side : ℕ} → Scanned name_space code (h + 1) side → Halves code h side Or
         sides scanned = head_halves j.ends.space head_opening scanned
-
-        pub inside_code : h + 1 ≤ length code
-        inside_code = omega (arith, (inside left_stood.there).start)
 
         -- The left branch, the term of record b from a node on, under its binder:
         module _ {b next : ℕ} (eb : b ≡ field_at records m 2) (en : After records a (n + 1) next) where

@@ -13,7 +13,7 @@ use Rattle.definitions.specs.Term.{ProofTerm, rename_term}
 use Rattle.definitions.specs.CheckingRules.{Context}
 use Rattle.definitions.specs.TermText.{nodes}
 use Rattle.definitions.specs.Checker.{Judged, derived, stopped, ◌>>=◌, sides, infer}
-use Rattle.prefix_code.specs.PropAt.{prop_at}
+use Rattle.prefix_code.specs.PropAt.{prop_at, Present}
 use Rattle.prefix_code.specs.Shape.{meant}
 use Rattle.prefix_code.specs.declared.Connective.{Connective}
 use Rattle.prefix_code.specs.Scan.{Scanned}
@@ -23,8 +23,8 @@ use Rattle.prop_numbers.specs.Answering.{Expected}
 use Rattle.checker.specs.Scope.{Scoped}
 use Rattle.checker.specs.Judging.{InfersAs, Means, named}
 use Rattle.prop_numbers.proofs.Opening.{Sides, binary_connective, opened, sides_else}
-use Rattle.prop_numbers.proofs.Fronts.{byte_of, dec_connective}
-use Rattle.prop_numbers.proofs.Halves.{left_present, rep_stands, scanned_of}
+use Rattle.prop_numbers.proofs.Fronts.{dec_connective}
+use Rattle.prop_numbers.proofs.Halves.{scanned_of}
 use Rattle.checker.proofs.Answers.{Deriving, stopping, derives}
 
 -- a stop passes through
@@ -71,8 +71,8 @@ module _ {code : List ℕ} {scope : List (Option ℕ)} {mades : List Made} {t : 
 -- Its sides.
 module _ {code : List ℕ} {scope : List (Option ℕ)} {mades : List Made} {t : ProofTerm ℕ} {n res : ℕ} {c : Connective} (space : length code ≤ standing)
     (o : Opening code scope mades t n c res) where
-  pub with_end : (end : ℕ) → (res < standing → Scanned name_space code (res + 1) end) → Sides code mades n (n + nodes t) res end c o.derived_as.prop
+  pub with_end : (end : ℕ) → (res < standing → Present name_space code (res + 1) → Scanned name_space code (res + 1) end) → Sides code mades n (n + nodes t) res end c o.derived_as.prop
   with_end end scanned = opened end c space o.derived_as.rep o.head scanned
 
   pub some_end : Sides code mades n (n + nodes t) res (res + 1 + length (encode (prop_at name_space code (res + 1)))) c o.derived_as.prop
-  some_end = with_end _ (λ low. scanned_of (left_present code res c (rep_stands o.derived_as.rep low).there (byte_of code mades c low o.head)))
+  some_end = with_end _ (λ low. scanned_of)

@@ -11,7 +11,7 @@ ghost use Rattle.checker.specs.Asking.{Few, NameHeld, LabelHeld, OfKind, Judgeab
 ghost use Rattle.checker.specs.Judging.{InferredTerm, CheckedTerm};
 ghost use Rattle.checker.specs.Helping.{After, Found, Bound, Ascribed, Annotated, BodySide};
 
-use prefix_code::{Connective, scan};
+use prefix_code::{Connective, known_end};
 use proof_term::{Kind, Label, NODE_LIMIT, field, kind_at, label_at, parameter_at};
 use prop_numbers::{Made, NAMES, Propositions, STOPS, make, same_code, side_of};
 use term_sizes::SIZE;
@@ -260,7 +260,7 @@ impl<'a> Terms<'a> {
         }
         let third = field(self.records, m, THIRD);
         let last = self.after(second, next);
-        let side = scan(self.code, h + 1, NAMES);
+        let side = known_end(self.code, h + 1, NAMES);
         let hidden = self.bind(&mut state.scope, m, RIGHT_NAME, side);
         let r = self.check(state, third, last, p);
         self.unbind(&mut state.scope, m, RIGHT_NAME, hidden);
@@ -391,7 +391,7 @@ impl<'a> Terms<'a> {
         }
         let third = field(self.records, m, THIRD);
         let last = self.after(second, next);
-        let side = scan(self.code, h + 1, NAMES);
+        let side = known_end(self.code, h + 1, NAMES);
         let hidden = self.bind(&mut state.scope, m, RIGHT_NAME, side);
         let r = self.infer(state, third, last);
         self.unbind(&mut state.scope, m, RIGHT_NAME, hidden);

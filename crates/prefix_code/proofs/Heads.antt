@@ -6,14 +6,14 @@ use mathlib.Core.List.{List, [], ◌∷◌, ◌++◌}
 use native.Mathlib.Omega.{arith}
 use native.Mathlib.Decide.{dec_lt}
 use lib.ListN.{length, drop, get_or}
+use Rattle.std.specs.Prelude.{Option, None, Some}
 use Rattle.definitions.specs.Sheet.{number_at}
 use Rattle.definitions.specs.Prop.{PropParameter, Connective, and, or, impl, connective_byte, Quantifier, for_all, exists, quantifier_byte}
 use Rattle.definitions.specs.Code.{parameter_limit, u16, encode_parameters}
 use Rattle.definitions.proofs.Readings.{Bytes}
-use Rattle.prefix_code.specs.Scan.{Stands, Ends, Several, parameters_coding}
+use Rattle.prefix_code.specs.Scan.{Stands, Absent, Ends, EndIfAny, Several, parameters_coding}
 use Rattle.prefix_code.specs.Head.{Head, TrueHead, FalseHead, BinaryHead, AtomHead, QuantifiedHead, encode_head, CodableHead, head_coding, parts_after}
 use Rattle.prefix_code.proofs.Positions.{extent, byte_stands, byte_at, number_stands, number_at_lem}
-use Rattle.prefix_code.proofs.Runs.{no_ends}
 
 -- how many parts follow a head
 abbrev pub part_count : Head → ℕ
@@ -159,10 +159,9 @@ module _ (names : ℕ) where
         quantified = λ _. (q, x, t, b);
       }
 
-  -- past the end of the list, where the bytes are those of no head
-  pub headless : (l : List ℕ) (at r : ℕ) → length l < r → ((h : Head) (rest : List ℕ) → HeadBytes l at h rest → ⊥)
-      → Ends (head_coding names) l at r
-  headless l at r k none = no_ends (head_coding names) l at r k (λ h rest s. none h rest (head_bytes l at h rest s))
+  -- where the bytes are those of no head
+  pub headless : (l : List ℕ) (at : ℕ) → ((h : Head) (rest : List ℕ) → HeadBytes l at h rest → ⊥) → Absent (head_coding names) l at
+  headless l at none h rest s = none h rest (head_bytes l at h rest s)
 
   -- the head of a byte below 5
   bare_head : (b : ℕ) → b < 5 → (h : Head) × CodableHead names h × (encode_head h ≡ b ∷ [])
@@ -202,16 +201,28 @@ module _ (names : ℕ) where
           (QuantifiedHead q (number_at l (at + 1)) (number_at l (at + 3)), ((below, datatype_below), cc))
 
       -- an atom ends where its parameters end
-      pub atom_ends : (r : ℕ) → at + 4 ≤ length l → get_or l at 0 ≡ 5 → get_or l (at + 3) 0 ≤ parameter_limit
+      atom_end : (r : ℕ) → at + 4 ≤ length l → get_or l at 0 ≡ 5 → get_or l (at + 3) 0 ≤ parameter_limit
           → Ends (parameters_coding names (get_or l (at + 3) 0)) l (at + 4) r → Ends (head_coding names) l at r
       unfolding Stands Several encode_head u16
-      atom_ends r k b few ends = record {
+      atom_end r k b few ends = record {
+        starts = record {
+          value = AtomHead (number_at l (at + 1)) ends.starts.value;
+          rest = ends.starts.rest;
+          stands = atom_stands ends.starts.value ends.starts.rest k b few ends.starts.stands;
+        };
         found = λ h rest s.
             let (a, ps, t) = (head_bytes l at h rest s).atom b in
             let p = t.parameters in
             omega
             (arith, ends.found ps rest p, extent l at (encode_head h) rest (omega arith) s.1, extent l (at + 4) (encode_parameters ps) rest k p.1);
-        only = λ h.
-            let (ps, rest, s, e) = ends.only h in
-            (AtomHead (number_at l (at + 1)) ps, rest, atom_stands ps rest k b few s, omega arith);
+        inside = ends.inside;
       }
+
+      -- without parameters there is no atom
+      no_atom : get_or l at 0 ≡ 5 → Absent (parameters_coding names (get_or l (at + 3) 0)) l (at + 4) → Absent (head_coding names) l at
+      no_atom b none h rest s = let (a, ps, t) = (head_bytes l at h rest s).atom b in none ps rest t.parameters
+
+      pub atom_ends : (o : Option ℕ) → at + 4 ≤ length l → get_or l at 0 ≡ 5 → get_or l (at + 3) 0 ≤ parameter_limit
+          → EndIfAny (parameters_coding names (get_or l (at + 3) 0)) l (at + 4) o → EndIfAny (head_coding names) l at o
+      atom_ends None k b few none = no_atom b none
+      atom_ends (Some r) k b few ends = atom_end r k b few ends

@@ -9,12 +9,12 @@ use Rattle.definitions.specs.Sheet.{number_at}
 use Rattle.definitions.specs.Prop.{PropParameter, Uninstantiated, Instantiated, parameter_name}
 use Rattle.definitions.specs.Code.{u16, encode_parameter, encode_parameters, CodableParameter, CodableParameters}
 use Rattle.definitions.proofs.Readings.{Bytes}
-use Rattle.prefix_code.specs.Scan.{Stands, Ends, Several, parameter_coding, parameters_coding}
+use Rattle.prefix_code.specs.Scan.{Stands, Absent, Ends, Several, parameter_coding, parameters_coding}
 use Rattle.prefix_code.specs.Shape.{kind_byte, kind_size}
 use Rattle.prefix_code.specs.declared.ParameterKind.{ParameterKind}
 use Rattle.prefix_code.specs.declared.ParameterKind.TheVariants as kinds
 use Rattle.prefix_code.proofs.Positions.{after, byte_stands, byte_at, number_stands, number_at_lem}
-use Rattle.prefix_code.proofs.Runs.{Run, no_ends}
+use Rattle.prefix_code.proofs.Runs.{Run, ends_at}
 
 module _ (names : ℕ) where
   abbrev pub ParameterAt : List ℕ → ℕ → PropParameter ℕ → List ℕ → Type 0
@@ -56,11 +56,10 @@ module _ (names : ℕ) where
         instantiated = λ _. (cc, omega (arith, m.inside), m.next);
       }
 
-  -- past the end of the list, where the bytes are those of no parameter
-  pub no_parameter : (l : List ℕ) (at r : ℕ) → length l < r
-      → ((p : PropParameter ℕ) (rest : List ℕ) → ParameterBytes l at p rest → ⊥) → Ends (parameter_coding names) l at r
-  no_parameter l at r k none =
-      no_ends (parameter_coding names) l at r k (λ p rest s. none p rest (parameter_bytes l at p rest s))
+  -- where the bytes are those of no parameter
+  pub no_parameter : (l : List ℕ) (at : ℕ) → ((p : PropParameter ℕ) (rest : List ℕ) → ParameterBytes l at p rest → ⊥)
+      → Absent (parameter_coding names) l at
+  no_parameter l at none p rest s = none p rest (parameter_bytes l at p rest s)
 
   module _ (l : List ℕ) (at : ℕ) (bytes : Bytes l) (below : number_at l (at + 1) < names) where
     -- the parameter that the bytes at a position are
@@ -91,6 +90,15 @@ module _ (names : ℕ) where
       → (at + kind_size k ≤ length l) × (drop (at + kind_size k) l ≡ rest)
   kind_bytes b kinds.Uninstantiated is = (b.inside, (b.uninstantiated is).1)
   kind_bytes b kinds.Instantiated is = let i = b.instantiated is in (i.1, i.2)
+
+  -- and ends behind them
+  pub kind_ends : (l : List ℕ) (at : ℕ) (p : PropParameter ℕ) (rest : List ℕ) → at ≤ length l → ParameterAt l at p rest → (k : ParameterKind)
+      → get_or l at 0 ≡ kind_byte k → Ends (parameter_coding names) l at (at + kind_size k)
+  kind_ends l at p rest start s k is =
+      let (inside, next) = kind_bytes (parameter_bytes l at p rest s) k is in
+      ends_at (parameter_coding names) l at (at + kind_size k) start inside
+      (λ q more t. (kind_bytes (parameter_bytes l at q more t) k is).1)
+      (p, rw next s)
 
   -- the first of some parameters that stand at a position, and the others
   pub record FirstParameter (l : List ℕ) (at needed : ℕ) (ps : List (PropParameter ℕ)) (rest : List ℕ) : Type 0 where

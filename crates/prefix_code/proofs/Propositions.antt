@@ -7,9 +7,9 @@ use native.Mathlib.Omega.{arith}
 use lib.ListN.{length, drop, get_or}
 use Rattle.definitions.specs.Prop.{Prop, True, False, Binary, Atom, Quantified, PropParameter, Connective, Quantifier}
 use Rattle.definitions.specs.Code.{u16, encode, Codable}
-use Rattle.prefix_code.specs.Scan.{Coding, Stands, Ends, proposition_coding}
+use Rattle.prefix_code.specs.Scan.{Coding, Stands, Absent, Ends, proposition_coding}
 use Rattle.prefix_code.specs.Head.{Head, TrueHead, FalseHead, BinaryHead, AtomHead, QuantifiedHead, encode_head, CodableHead, head_coding, parts_after}
-use Rattle.prefix_code.proofs.Positions.{after, extent}
+use Rattle.prefix_code.proofs.Positions.{after}
 use Rattle.prefix_code.proofs.Runs.{Run, run_instead, Walked, walk_on, walk_off}
 use Rattle.prefix_code.proofs.Heads.{part_count, head_bytes}
 
@@ -83,11 +83,11 @@ module _ (names : ℕ) (Whole Part : Prop ℕ → Type 0) (layer : Layer names W
     λ (h, ys, g, e, r). of_head h xs ys rest g e r,
   )
 
-  module _ (l : List ℕ) (at r : ℕ) (start : at ≤ length l) (ends : Ends (head_coding names) l at r) where
+  module _ (l : List ℕ) (at : ℕ) where
     -- behind the head its parts follow
-    pub head_walk : r ≤ length l → Walked whole part l at r (parts_after (get_or l at 0))
+    pub head_walk : (r : ℕ) → Ends (head_coding names) l at r → Walked whole part l at r (parts_after (get_or l at 0))
     unfolding Stands
-    head_walk h = record { inside = h; same = λ rest. (forth rest, back rest) }
+    head_walk r ends = record { inside = ends.inside; same = λ rest. (forth rest, back rest) }
       where
         forth : (rest : List ℕ) → Run whole 1 (drop at l) rest → Run part (parts_after (get_or l at 0)) (drop r l) rest
         forth rest s =
@@ -97,16 +97,16 @@ module _ (names : ℕ) (Whole Part : Prop ℕ → Type 0) (layer : Layer names W
 
         back : (rest : List ℕ) → Run part (parts_after (get_or l at 0)) (drop r l) rest → Run whole 1 (drop at l) rest
         back rest t =
-            let (k, ys, s, e) = ends.only h in
-            let next : drop r l ≡ ys = rw e (after l at (encode_head k) ys s.1) in
+            let k = ends.starts.value in
+            let ys = ends.starts.rest in
+            let s = ends.starts.stands in
+            let next : drop r l ≡ ys = rw (ends.found k ys s) (after l at (encode_head k) ys s.1) in
             of_head k (drop at l) ys rest s.0 s.1 (rw ((head_bytes names l at k ys s).parts, ← next) t)
 
     -- without a head there is no proposition
-    pub no_head : length l < r → (rest : List ℕ) → Run whole 1 (drop at l) rest → ⊥
+    pub no_head : Absent (head_coding names) l at → (rest : List ℕ) → Run whole 1 (drop at l) rest → ⊥
     unfolding Stands
-    no_head h rest s =
-        let (k, ys, g, e, t) = (head_run (drop at l) rest).0 s in
-        omega (arith, ends.found k ys (g, e), extent l at (encode_head k) ys start e)
+    no_head none rest s = let (k, ys, g, e, t) = (head_run (drop at l) rest).0 s in none k ys (g, e)
 
 pub head_long : (h : Head) → (0 < length (encode_head h)) × (part_count h ≤ 2)
 unfolding encode_head
@@ -116,17 +116,19 @@ head_long (BinaryHead c) = omega arith
 head_long (AtomHead a ps) = omega arith
 head_long (QuantifiedHead q x t) = omega arith
 
--- where a head ends inside the list, one begins there: its byte is one of eight, and its end is further on
+-- the byte in front of a head is one of eight, and its end is further on
 pub record Headed (l : List ℕ) (at r : ℕ) : Type 0 where
   pub inside : at < length l
   pub known : get_or l at 0 < 8
   pub few : parts_after (get_or l at 0) ≤ 2
   pub further : at < r
 
-pub headed : (names : ℕ) (l : List ℕ) (at r : ℕ) → Ends (head_coding names) l at r → r ≤ length l → Headed l at r
-headed names l at r ends h =
-    let (k, ys, s, e) = ends.only h in
-    let b = head_bytes names l at k ys s in
+pub headed : (names : ℕ) (l : List ℕ) (at r : ℕ) → Ends (head_coding names) l at r → Headed l at r
+headed names l at r ends =
+    let k = ends.starts.value in
+    let s = ends.starts.stands in
+    let e = ends.found k ends.starts.rest s in
+    let b = head_bytes names l at k ends.starts.rest s in
     let long = head_long k in
     record { inside = b.inside; known = b.known; few = omega (arith, b.parts); further = omega arith }
 
@@ -136,19 +138,18 @@ module _ (names : ℕ) (l : List ℕ) (at : ℕ) where
   Needed = Walked (proposition_coding names) (proposition_coding names) l at
 
   -- behind a head one proposition less is needed, and its parts more
-  pub walk_head : (i needed j : ℕ) → Needed i needed → 0 < needed → Ends (head_coding names) l i j → j ≤ length l
+  pub walk_head : (i needed j : ℕ) → Needed i needed → 0 < needed → Ends (head_coding names) l i j
       → Needed j (needed - 1 + parts_after (get_or l i 0))
-  walk_head i zero j w z e h = absurd (omega arith)
-  walk_head i (suc n) j w z e h =
+  walk_head i zero j w z e = absurd (omega arith)
+  walk_head i (suc n) j w z e =
       let parts : ℕ = parts_after (get_or l i 0) in
       let count : suc n - 1 + parts ≡ parts + n = omega arith in
-      let instead = (head_walk names (Codable names) (Codable names) (codable_layer names) l i j w.inside e h).same in
-      rw count (walk_on l at i (suc n) w j (parts + n) h (λ rest. run_instead (proposition_coding names) parts n (drop i l) (drop j l) rest instead))
+      let instead = (head_walk names (Codable names) (Codable names) (codable_layer names) l i j e).same in
+      rw count (walk_on l at i (suc n) w j (parts + n) e.inside (λ rest. run_instead (proposition_coding names) parts n (drop i l) (drop j l) rest instead))
 
   -- without a head there is no whole
-  pub walk_no_head : (i needed j : ℕ) → Needed i needed → 0 < needed → Ends (head_coding names) l i j → length l < j
-      → Ends (proposition_coding names) l at j
-  walk_no_head i zero j w z e h = absurd (omega arith)
-  walk_no_head i (suc n) j w z e h =
-      walk_off l at i (suc n) w j h
-      (λ rest (p, ys, g, d, r). no_head names (Codable names) (Codable names) (codable_layer names) l i j w.inside e h ys (p, ys, g, d, refl))
+  pub walk_no_head : (i needed : ℕ) → Needed i needed → 0 < needed → Absent (head_coding names) l i → Absent (proposition_coding names) l at
+  walk_no_head i zero w z none = absurd (omega arith)
+  walk_no_head i (suc n) w z none =
+      walk_off l at i (suc n) w
+      (λ rest (p, ys, g, d, r). no_head names (Codable names) (Codable names) (codable_layer names) l i none ys (p, ys, g, d, refl))

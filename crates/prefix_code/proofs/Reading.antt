@@ -10,13 +10,16 @@ use native.Mathlib.Decide.{dec_lt}
 use lib.ListN.{length, get_or, take, drop, length-take, length-drop, take-append-drop, get_or-eq_default}
 use lib.Seq.{get_or-take, get_or-drop}
 use Rattle.definitions.specs.Prop.{Prop, False}
-use Rattle.definitions.specs.Code.{proposition, encode, decode}
+use Rattle.definitions.specs.Code.{proposition, encode, decode, Codable}
 use Rattle.definitions.specs.Sheet.{pair_offset, pair_length, pair_end, marked}
 use Rattle.definitions.specs.Tree.{prop_in}
 use Rattle.definitions.specs.Admission.{is_none}
 use Rattle.definitions.proofs.PrefixCode.{Bytes, read_encode, encode_decode}
-use Rattle.prefix_code.specs.Scan.{Stands, At}
+use Rattle.prefix_code.specs.Scan.{Stands, Starts, At, proposition_coding}
+use Rattle.prefix_code.specs.Head.{head_coding}
 use Rattle.prefix_code.specs.PropAt.{value_read, prop_at, Present}
+use Rattle.prefix_code.proofs.Runs.{run_of}
+use Rattle.prefix_code.proofs.Propositions.{codable_layer, head_run}
 use Rattle.prefix_code.proofs.Forms.{inside_at, known_at}
 
 module _ (names : ℕ) (l : List ℕ) (at : ℕ) (p : Prop ℕ) (rest : List ℕ) (s : At names l at p rest) where
@@ -28,6 +31,14 @@ module _ (names : ℕ) (l : List ℕ) (at : ℕ) (p : Prop ℕ) (rest : List ℕ
 
   pub present : Present names l at
   present = record { rest = rest; stands = rw prop_at_lem s }
+
+-- where a proposition is present its head starts
+pub head_starts : {names : ℕ} {l : List ℕ} {at : ℕ} → Present names l at → Starts (head_coding names) l at
+unfolding Stands
+head_starts {names} {l} {at} h =
+    let run = run_of (proposition_coding names) l at (prop_at names l at) h.rest h.stands in
+    let (head, rest, g, e, r) = (head_run names (Codable names) (Codable names) (codable_layer names) (drop at l) h.rest).0 run in
+    record { value = head; rest = rest; stands = (g, e) }
 
 -- the code of a proposition lies within the bytes, and the byte in front of it is one of eight
 pub record Inside (names : ℕ) (l : List ℕ) (at : ℕ) : Type 0 where

@@ -6,7 +6,7 @@ use mathlib.Core.Logic.{◌↔◌}
 use mathlib.Core.List.{List, ◌++◌}
 use native.Mathlib.Omega.{arith}
 use lib.ListN.{length, drop, length-drop}
-use Rattle.prefix_code.specs.Scan.{Coding, Stands, Ends}
+use Rattle.prefix_code.specs.Scan.{Coding, Stands, Absent, Ends}
 use Rattle.prefix_code.proofs.Positions.{after, extent}
 
 module _ {A : Type 0} (coding : Coding A) where
@@ -48,40 +48,44 @@ module _ {A : Type 0} (coding : Coding A) where
   run_of l at a rest s = (a, rest, s.0, s.1, refl)
 
   module _ (l : List ℕ) (at r : ℕ) where
-    -- past the end of the list, where no code starts at `at`
-    pub no_ends : length l < r → ((a : A) (rest : List ℕ) → Stands coding l at a rest → ⊥) → Ends coding l at r
-    no_ends h f = record { found = λ a rest s. absurd (f a rest s); only = λ k. absurd (omega arith) }
-
-    -- inside the list, where a code starts at `at`, and what follows such a code starts here
+    -- where a code starts at `at`, and what follows such a code starts here
     pub ends_at : at ≤ length l → r ≤ length l → ((a : A) (rest : List ℕ) → Stands coding l at a rest → drop r l ≡ rest)
         → (a : A) × Stands coding l at a (drop r l) → Ends coding l at r
     unfolding Stands
     ends_at start h f (a, s) = record {
+      starts = record { value = a; rest = drop r l; stands = s };
       found = λ b rest t. same b rest t (f b rest t);
-      only = λ _. (a, drop r l, s, same a (drop r l) s refl);
+      inside = h;
     }
       where
         same : (b : A) (rest : List ℕ) → Stands coding l at b rest → drop r l ≡ rest → r ≡ at + length (coding.code b)
         same b rest t e = omega (arith, extent l at (coding.code b) rest start t.1, length-drop r l, ap length e)
 
-  module _ (l : List ℕ) (at r : ℕ) (start : at ≤ length l) (ends : Ends coding l at r) where
+  module _ (l : List ℕ) (at : ℕ) where
     -- behind the first code of a run the others follow
-    pub run_step : (n : ℕ) (rest : List ℕ) → r ≤ length l → Run (suc n) (drop at l) rest ↔ Run n (drop r l) rest
+    pub run_step : (r : ℕ) → Ends coding l at r → (n : ℕ) (rest : List ℕ) → Run (suc n) (drop at l) rest ↔ Run n (drop r l) rest
     unfolding Stands
-    run_step n rest h = (forth, back)
+    run_step r ends n rest = (forth, back)
       where
         forth : Run (suc n) (drop at l) rest → Run n (drop r l) rest
         forth (a, ys, f, e, s) = rw (ends.found a ys (f, e), after l at (coding.code a) ys e) s
 
         back : Run n (drop r l) rest → Run (suc n) (drop at l) rest
         back s =
-            let (a, ys, t, e) = ends.only h in
-            (a, drop r l, t.0, t.1 ∙ ap (λ (zs : List ℕ). coding.code a ++ zs) (sym (rw e (after l at (coding.code a) ys t.1))), s)
+            let first = ends.starts in
+            let (f, e) = first.stands in
+            let end = ends.found first.value first.rest first.stands in (
+              first.value,
+              drop r l,
+              f,
+              e ∙ ap (λ (zs : List ℕ). coding.code first.value ++ zs) (sym (rw end (after l at (coding.code first.value) first.rest e))),
+              s,
+            )
 
     -- without a first code there is no run
-    pub no_run : (n : ℕ) (rest : List ℕ) → length l < r → Run (suc n) (drop at l) rest → ⊥
+    pub no_run : Absent coding l at → (n : ℕ) (rest : List ℕ) → Run (suc n) (drop at l) rest → ⊥
     unfolding Stands
-    no_run n rest h (a, ys, f, e, s) = omega (arith, ends.found a ys (f, e), extent l at (coding.code a) ys start e)
+    no_run none n rest (a, ys, f, e, s) = none a ys (f, e)
 
 -- From `at` on there is a whole and then `rest` exactly where from `i` on there are so many parts and then `rest`.
 pub record Walked {A B : Type 0} (whole : Coding B) (part : Coding A) (l : List ℕ) (at i parts : ℕ) : Type 0 where
@@ -95,22 +99,20 @@ module _ {A B : Type 0} {whole : Coding B} {part : Coding A} (l : List ℕ) (at 
   walk_on j more h f = record { inside = h; same = λ rest. Iff.trans (walk.same rest) (f rest) }
 
   -- there are no such parts
-  pub walk_off : (j : ℕ) → length l < j → ((rest : List ℕ) → Run part parts (drop i l) rest → ⊥) → Ends whole l at j
-  walk_off j h f = no_ends whole l at j h (λ b rest s. f rest ((walk.same rest).0 (run_of whole l at b rest s)))
+  pub walk_off : ((rest : List ℕ) → Run part parts (drop i l) rest → ⊥) → Absent whole l at
+  walk_off f b rest s = f rest ((walk.same rest).0 (run_of whole l at b rest s))
 
 module _ {A B : Type 0} {whole : Coding B} {part : Coding A} (l : List ℕ) (at i : ℕ) where
   -- behind the first part one less is needed
-  pub walk_step : (parts more j : ℕ) → Walked whole part l at i parts → parts ≡ suc more → Ends part l i j → j ≤ length l
+  pub walk_step : (parts more j : ℕ) → Walked whole part l at i parts → parts ≡ suc more → Ends part l i j
       → Walked whole part l at j more
-  walk_step parts more j w is e h =
-      walk_on l at i (suc more) (rw is at w) j more h (λ rest. run_step part l i j w.inside e more rest h)
+  walk_step parts more j w is e =
+      walk_on l at i (suc more) (rw is at w) j more e.inside (run_step part l i j e more)
 
   -- without a first part there is no whole
-  pub walk_stop : (parts j : ℕ) → Walked whole part l at i parts → 0 < parts → Ends part l i j → length l < j
-      → Ends whole l at j
-  walk_stop zero j w z e h = absurd (omega arith)
-  walk_stop (suc parts) j w z e h =
-      walk_off l at i (suc parts) w j h (λ rest. no_run part l i j w.inside e parts rest h)
+  pub walk_stop : (parts : ℕ) → Walked whole part l at i parts → 0 < parts → Absent part l i → Absent whole l at
+  walk_stop zero w z none = absurd (omega arith)
+  walk_stop (suc parts) w z none = walk_off l at i (suc parts) w (no_run part l i none parts)
 
   -- no part is left
   pub walk_end : at ≤ length l → Walked whole part l at i 0 → Ends whole l at i

@@ -2,7 +2,8 @@
 use Prim.Native.Nat.{ℕ, ◌*◌, ◌≤◌, ◌<◌}
 use mathlib.Core.Path.{◌≡◌, refl, sym, ap, ◌∙◌}
 use mathlib.Core.Bool.{false, not}
-use Rattle.std.specs.Prelude.{Option, None, Some, unwrap_or}
+use Rattle.std.specs.Prelude.{Option, None, Some, unwrap_or, is_some as given}
+use Rattle.std.specs.Option.{option_eq}
 use mathlib.Core.List.{List, [], ◌∷◌, append-nil}
 use native.Mathlib.Omega.{arith}
 use native.Mathlib.Decide.{dec_lt}
@@ -14,7 +15,8 @@ use Rattle.definitions.specs.Code.{encode, decode}
 use Rattle.definitions.specs.Admission.{is_none}
 use Rattle.definitions.proofs.Shape.{two_bytes_a_level}
 use Rattle.definitions.proofs.PrefixCode.{Bytes, decode_encode, encode_decode, encode_injective}
-use Rattle.prefix_code.specs.Scan.{Stands, Ends, At, Scanned, Shallow, shallow_coding}
+use Rattle.prefix_code.specs.Scan.{Stands, EndIfAny, At, proposition_coding, Shallow, shallow_coding}
+use Rattle.prefix_code.proofs.Depth.{two_bytes_a_level}
 use Rattle.prefix_code.proofs.Reading.{is_some}
 
 module _ (names : ℕ) (l : List ℕ) (bytes : Bytes l) where
@@ -35,35 +37,39 @@ module _ (names : ℕ) (l : List ℕ) (bytes : Bytes l) where
   decoded_length : (p : Prop ℕ) → decode names l ≡ Some p → length (encode p) ≡ length l
   decoded_length p e = ap length (encode_decode names l p bytes e).0
 
-  pub scanned_whole : (r : ℕ) → Scanned names l 0 r → eqb r (length l) ≡ not (is_none (decode names l))
+  pub scanned_whole : (o : Option ℕ) → EndIfAny (proposition_coding names) l 0 o
+      → option_eq eqb o (Some (length l)) ≡ not (is_none (decode names l))
   unfolding is_none
-  scanned_whole r s = go (decode names l) refl
+  scanned_whole o s = by o s (decode names l) refl
     where
-      go : (d : Option (Prop ℕ)) → decode names l ≡ d → eqb r (length l) ≡ not (is_none d)
-      go None e = ne_eqb r (length l) λ h.
-          let (p, rest, t, end) = s.only (omega arith) in
-          let d = whole_decodes p rest t (omega arith) in
-          grind arith
-      go (Some p) e = eq-eqb r (length l) (omega (arith, s.found p [] (decoded p e), decoded_length p e))
+      by : (o : Option ℕ) → EndIfAny (proposition_coding names) l 0 o → (d : Option (Prop ℕ)) → decode names l ≡ d
+          → option_eq eqb o (Some (length l)) ≡ not (is_none d)
+      by None none None e = refl
+      by None none (Some p) e = absurd (none p [] (decoded p e))
+      by (Some r) s None e = ne_eqb r (length l) λ h.
+          let t = s.starts in
+          let d = whole_decodes t.value t.rest t.stands (omega (arith, s.found t.value t.rest t.stands)) in
+          let z : ◌≡◌ {A = ℕ} 0 1 = cc in
+          omega arith
+      by (Some r) s (Some p) e = eq-eqb r (length l) (omega (arith, s.found p [] (decoded p e), decoded_length p e))
 
-  pub shallow_whole : (depth r : ℕ) → is_none (decode names l) ≡ false → Ends (shallow_coding names depth) l 0 r
-      → ltb (length l) r ≡ ltb depth (nesting (unwrap_or (decode names l) False))
+  pub shallow_whole : (depth : ℕ) (o : Option ℕ) → is_none (decode names l) ≡ false → EndIfAny (shallow_coding names depth) l 0 o
+      → not (given o) ≡ ltb depth (nesting (unwrap_or (decode names l) False))
   unfolding Stands Shallow
-  shallow_whole depth r is s =
-      let (p, e) = is_some (decode names l) is in rw e (by p e (dec_lt (length l) r) (dec_lt depth (nesting p)))
+  shallow_whole depth o is s =
+      let (p, e) = is_some (decode names l) is in rw e (by p e o s (dec_lt depth (nesting p)))
     where
-      by : (p : Prop ℕ) → decode names l ≡ Some p → Dec (length l < r) → Dec (depth < nesting p)
-          → ltb (length l) r ≡ ltb depth (nesting p)
-      by p e (yes past) (yes deep) = lt-ltb (length l) r past ∙ sym (lt-ltb depth (nesting p) deep)
-      by p e (no inside) (no flat) = le-ltb (length l) r (omega arith) ∙ sym (le-ltb depth (nesting p) (omega arith))
-      by p e (yes past) (no flat) =
+      by : (p : Prop ℕ) → decode names l ≡ Some p → (o : Option ℕ) → EndIfAny (shallow_coding names depth) l 0 o → Dec (depth < nesting p)
+          → not (given o) ≡ ltb depth (nesting p)
+      by p e None none (yes deep) = sym (lt-ltb depth (nesting p) deep)
+      by p e None none (no flat) =
+          let whole = decoded p e in absurd (none p [] ((whole.0, omega arith), whole.1))
+      by p e (Some r) s (no flat) = sym (le-ltb depth (nesting p) (omega arith))
+      by p e (Some r) s (yes deep) =
           let whole = decoded p e in
-          absurd (omega (arith, s.found p [] ((whole.0, omega arith), whole.1), decoded_length p e))
-      by p e (no inside) (yes deep) =
-          let whole = decoded p e in
-          let (q, rest, t, end) = s.only (omega arith) in
-          let same = (encode_injective names q p rest [] t.0.0 whole.0 (sym t.1 ∙ whole.1)).0 in
-          absurd (omega (arith, ap nesting same, t.0.1))
+          let q = s.starts in
+          let same = (encode_injective names q.value p q.rest [] q.stands.0.0 whole.0 (sym q.stands.1 ∙ whole.1)).0 in
+          absurd (omega (arith, ap nesting same, q.stands.0.1))
 
   -- short code nests no deeper
   pub short_whole : (depth : ℕ) → is_none (decode names l) ≡ false → length l ≤ 2 * depth

@@ -1,5 +1,5 @@
--- Where a code stands in bytes, and what a function says that looks for its end.
-use Rattle.std.specs.Prelude.{ℕ, ◌+◌, ◌≤◌, ◌≡◌, List, ◌++◌, length, drop}
+-- Where a code stands in bytes, and where it ends.
+use Rattle.std.specs.Prelude.{ℕ, ◌+◌, ◌≤◌, ◌≡◌, List, ◌++◌, length, drop, Option, MatchOption}
 use Rattle.definitions.specs.Prop.{Prop, PropParameter, nesting}
 use Rattle.definitions.specs.Code.{encode_parameter, encode_parameters, encode, CodableParameter, CodableParameters, Codable}
 
@@ -13,10 +13,25 @@ module _ {A : Type 0} (coding : Coding A) where
   unfoldable pub Stands : List ℕ → ℕ → A → List ℕ → Type 0
   Stands l at a rest = coding.Fits a × (drop at l ≡ coding.code a ++ rest)
 
-  -- `r` is where the code that starts at `at` ends, and past the end of `l` if none starts there
-  pub record Ends (l : List ℕ) (at r : ℕ) : Type 0 where
-    pub found : (a : A) (rest : List ℕ) → Stands l at a rest → r ≡ at + length (coding.code a)
-    pub only : r ≤ length l → (a : A) × (rest : List ℕ) × Stands l at a rest × (r ≡ at + length (coding.code a))
+  -- none starts at `at`
+  abbrev pub Absent : List ℕ → ℕ → Type 0
+  Absent l at = (a : A) (rest : List ℕ) → Stands l at a rest → ⊥
+
+  -- one starts at `at`
+  pub record Starts (l : List ℕ) (at : ℕ) : Type 0 where
+    pub value : A
+    pub rest : List ℕ
+    pub stands : Stands l at value rest
+
+  -- one starts at `at`, and `end` is where it ends
+  pub record Ends (l : List ℕ) (at end : ℕ) : Type 0 where
+    pub starts : Starts l at
+    pub found : (a : A) (rest : List ℕ) → Stands l at a rest → end ≡ at + length (coding.code a)
+    pub inside : end ≤ length l
+
+  -- where it ends, if one starts at `at`
+  abbrev pub EndIfAny : List ℕ → ℕ → Option ℕ → Type 0
+  EndIfAny l at result = MatchOption result (Absent l at) (Ends l at)
 
 -- a proposition with names below `names`
 abbrev pub proposition_coding : ℕ → Coding (Prop ℕ)

@@ -7,7 +7,7 @@ ghost use Rattle.definitions.specs.Display.{connective_precedence, wraps_left, w
 ghost use Rattle.definitions.specs.TermReader.{right_least};
 ghost use Rattle.definitions.specs.Code.{decode};
 ghost use Rattle.definitions.specs.Admission.{is_none};
-ghost use Rattle.prefix_code.specs.Scan.{Ends, Scanned, parameter_coding, parameters_coding, shallow_coding};
+ghost use Rattle.prefix_code.specs.Scan.{Starts, Ends, EndIfAny, Scanned, proposition_coding, parameter_coding, parameters_coding, shallow_coding};
 ghost use Rattle.prefix_code.specs.Head.{head_coding, parts_after};
 ghost use Rattle.prefix_code.specs.PropAt.{Present};
 ghost use Rattle.prefix_code.specs.Shape.{SomeProposition, kind_byte, kind_size, meant, quantifier_meant, head_byte, ShapeOf};
@@ -40,11 +40,7 @@ pub const EXISTS: u8 = Quantifier::Exists as u8;
 
 // Code, a place in it and the count of its names stand loose: the place moves from call to call, and of a struct of the other two nearly
 // each use, here and in the crates above, would read `code.bytes`, for the count is only asked for where a number of a name has to be below
-// it. What a function promises of an end is one relation of its own coding, as `Ends (head_coding names) code.now at result`.
-
-// An end below is a position past the end of the code where nothing stands, and no Option: each of the seven calls of `head_end` and
-// `parameter_end` and of the eight calls of `scan` above knows that something stands, and would have to unwrap the end. Three loops here
-// and `is_deep` ask whether something does.
+// it. What a function promises of an end is one relation of its own coding, as `EndIfAny (head_coding names) code.now at result`.
 
 // A parameter that a quantifier binds, and one with an id, each by the byte in front of its name.
 #[derive(Debug, Clone, Copy, PartialEq, Eq)]
@@ -92,149 +88,140 @@ impl ParameterKind {
     }
 }
 
-// Where the parameter at `at` ends, and past the end of the code if none stands there.
-pub fn parameter_end(code: &[u8], at: usize, names: usize) -> usize
+// Where the parameter at `at` ends, if one stands there.
+pub fn parameter_end(code: &[u8], at: usize, names: usize) -> Option<usize>
     requires { at ≤ length code.now }
-    ensures { Ends (parameter_coding names) code.now at result }
+    ensures { EndIfAny (parameter_coding names) code.now at result }
 {
-    let none = code.len() + 1;
     if code.len() - at < 3 {
-        return none;
+        return None;
     }
     if names <= number::number_at(code, at + 1) {
-        return none;
+        return None;
     }
-    let Some(kind) = ParameterKind::of_byte(code[at]) else {
-        return none;
-    };
-    let size = kind.size();
+    let size = ParameterKind::of_byte(code[at])?.size();
     if code.len() - at < size {
-        return none;
+        return None;
     }
-    at + size
+    Some(at + size)
 }
 
-// Where so many parameters from `at` on end, and past the end of the code if fewer stand there. The place moves by hand here and in three
-// crates above: an iterator over parameters could serve prop::put_atom and renumbering's put_parameters alone, since here the bytes may be
-// no parameters, and alpha_eq answers where both lists end, which the parameters that an iterator hands out do not say.
-pub fn parameters_end(code: &[u8], at: usize, count: usize, names: usize) -> usize
+// Where so many parameters from `at` on end, if so many stand there. The place moves by hand here and in three crates above: an iterator
+// over parameters could serve prop::put_atom and renumbering's put_parameters alone, since here the bytes may be no parameters, and
+// alpha_eq answers where both lists end, which the parameters that an iterator hands out do not say.
+pub fn parameters_end(code: &[u8], at: usize, count: usize, names: usize) -> Option<usize>
     requires { at ≤ length code.now }
-    ensures { Ends (parameters_coding names count) code.now at result }
+    ensures { EndIfAny (parameters_coding names count) code.now at result }
 {
     let mut i = at;
     for _ in 0..count {
-        let end = parameter_end(code, i, names);
-        if code.len() < end {
-            return end;
-        }
-        i = end;
+        i = parameter_end(code, i, names)?;
     }
-    i
+    Some(i)
 }
 
-// Where the atom at `at` ends with its parameters, and past the end of the code if none stands there.
+// Where the atom at `at` ends with its parameters, if one stands there.
 #[tactic(auto, unfolding(definitions::specs::Code::parameter_limit))]
-fn atom_end(code: &[u8], at: usize, names: usize) -> usize
+fn atom_end(code: &[u8], at: usize, names: usize) -> Option<usize>
     requires { (at < length code.now) × (get_or code.now at 0 ≡ 5) }
-    ensures { Ends (head_coding names) code.now at result }
+    ensures { EndIfAny (head_coding names) code.now at result }
 {
-    let none = code.len() + 1;
     if code.len() - at < 4 {
-        return none;
+        return None;
     }
     if names <= number::number_at(code, at + 1) {
-        return none;
+        return None;
     }
     let count = code[at + 3];
     if PARAMETER_LIMIT < count {
-        return none;
+        return None;
     }
     parameters_end(code, at + 4, count as usize, names)
 }
 
-// Where the quantifier at `at` ends with its object and its datatype, and past the end of the code if none stands there.
-fn quantifier_end(code: &[u8], at: usize, names: usize) -> usize
+// Where the quantifier at `at` ends with its object and its datatype, if one stands there.
+fn quantifier_end(code: &[u8], at: usize, names: usize) -> Option<usize>
     requires { (at < length code.now) × (5 < get_or code.now at 0) × (get_or code.now at 0 < 8) }
-    ensures { Ends (head_coding names) code.now at result }
+    ensures { EndIfAny (head_coding names) code.now at result }
 {
-    let none = code.len() + 1;
     if code.len() - at < 5 {
-        return none;
+        return None;
     }
     if names <= number::number_at(code, at + 1) {
-        return none;
+        return None;
     }
     if names <= number::number_at(code, at + 3) {
-        return none;
+        return None;
     }
-    at + 5
+    Some(at + 5)
 }
 
-// Where the head at `at` ends, and past the end of the code if none stands there.
-pub fn head_end(code: &[u8], at: usize, names: usize) -> usize
+// Where the head at `at` ends, if one stands there.
+pub fn head_end(code: &[u8], at: usize, names: usize) -> Option<usize>
     requires { at ≤ length code.now }
-    ensures { Ends (head_coding names) code.now at result }
+    ensures { EndIfAny (head_coding names) code.now at result }
 {
-    let none = code.len() + 1;
     if code.len() <= at {
-        return none;
+        return None;
     }
-    let Some(head) = Head::of_byte(code[at]) else {
-        return none;
-    };
-    match head {
+    match Head::of_byte(code[at])? {
         Head::Atom => atom_end(code, at, names),
         Head::Quantified(_) => quantifier_end(code, at, names),
-        Head::True | Head::False | Head::Binary(_) => at + 1,
+        Head::True | Head::False | Head::Binary(_) => Some(at + 1),
     }
 }
 
-// Where the proposition at `at` ends, and past the end of the code if none stands there. How many are still needed grows on the way, so
-// no range counts the turns.
-pub fn scan(code: &[u8], at: usize, names: usize) -> usize
+// Where the head that stands at `at` ends.
+pub fn known_head_end(code: &[u8], at: usize, names: usize) -> usize
+    requires { Starts (head_coding names) code.now at }
+    ensures { Ends (head_coding names) code.now at result }
+{
+    head_end(code, at, names).unwrap()
+}
+
+// Where the proposition at `at` ends, if one stands there. How many are still needed grows on the way, so no range counts the turns.
+pub fn scan(code: &[u8], at: usize, names: usize) -> Option<usize>
     requires { at ≤ length code.now }
-    ensures { Scanned names code.now at result }
+    ensures { EndIfAny (proposition_coding names) code.now at result }
 {
     let mut i = at;
     let mut needed: usize = 1;
     while 0 < needed {
-        let end = head_end(code, i, names);
-        if code.len() < end {
-            return end;
-        }
+        let end = head_end(code, i, names)?;
         needed = needed - 1 + Head::of_known(code[i]).parts();
         i = end;
     }
-    i
+    Some(i)
 }
 
-// Where the proposition at `at` ends if it nests at most so deep, and past the end of the code if none such stands there.
-fn shallow_end(code: &[u8], at: usize, names: usize, depth: usize) -> usize
+// Where the proposition that stands at `at` ends.
+pub fn known_end(code: &[u8], at: usize, names: usize) -> usize
+    requires { Present names code.now at }
+    ensures { Scanned names code.now at result }
+{
+    scan(code, at, names).unwrap()
+}
+
+// Where the proposition at `at` ends, if one stands there that nests at most so deep.
+fn shallow_end(code: &[u8], at: usize, names: usize, depth: usize) -> Option<usize>
     requires { at ≤ length code.now }
-    ensures { Ends (shallow_coding names depth) code.now at result }
+    ensures { EndIfAny (shallow_coding names depth) code.now at result }
 {
     if depth == 0 {
-        return code.len() + 1;
+        return None;
     }
-    let mut i = head_end(code, at, names);
-    if code.len() < i {
-        return i;
-    }
+    let mut i = head_end(code, at, names)?;
     for _ in 0..Head::of_known(code[at]).parts() {
-        let end = shallow_end(code, i, names, depth - 1);
-        if code.len() < end {
-            return end;
-        }
-        i = end;
+        i = shallow_end(code, i, names, depth - 1)?;
     }
-    i
+    Some(i)
 }
 
 // Is it exactly one proposition over its whole length, with names below `names`? If not, that is refusal 7.
 pub fn is_code(code: &[u8], names: usize) -> bool
     ensures { result ≡ not (is_none (decode names code.now)) }
 {
-    scan(code, 0, names) == code.len()
+    scan(code, 0, names) == Some(code.len())
 }
 
 // Does the proposition nest deeper than a limit? With that of a sheet, this is refusal 8. Each level but the innermost takes at
@@ -246,7 +233,7 @@ pub fn is_deep(code: &[u8], names: usize, limit: usize) -> bool
     if code.len() / 2 < limit {
         return false;
     }
-    code.len() < shallow_end(code, 0, names, limit)
+    shallow_end(code, 0, names, limit).is_none()
 }
 
 // How strongly ⊤, ⊥, atoms and negations bind.

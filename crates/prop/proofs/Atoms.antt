@@ -4,7 +4,7 @@ use mathlib.Core.Path.{◌≡◌, refl, sym, ap, ◌∙◌}
 use mathlib.Core.List.{List, [], ◌∷◌, ◌++◌, map, append_assoc, append-nil}
 use native.Mathlib.Nat.{pos_of_ne-zero}
 use native.Mathlib.Omega.{arith}
-use lib.ListN.{length, length-map}
+use lib.ListN.{length, get_or, length-map}
 use Rattle.definitions.specs.Utf8.{utf8}
 use Rattle.definitions.specs.Name.{Name}
 use Rattle.definitions.specs.Prop.{Atom, PropParameter, Uninstantiated, Instantiated, parameter_name, rename_parameter}
@@ -13,7 +13,9 @@ use Rattle.definitions.specs.Sheet.{number_at}
 use Rattle.definitions.specs.Display.{following_parameters, display_parameters, display_prop}
 use Rattle.output.specs.SinkLaws.{SinkLaws}
 use Rattle.prefix_code.specs.Scan.{Stands, Ends, parameter_coding, Several, parameters_coding}
-use Rattle.prefix_code.proofs.Parameters.{ParameterBytes, parameter_bytes, FirstParameter, first_parameter, none_stand}
+use Rattle.prefix_code.specs.Shape.{kind_byte, kind_size}
+use Rattle.prefix_code.specs.declared.ParameterKind.{ParameterKind}
+use Rattle.prefix_code.proofs.Parameters.{ParameterBytes, parameter_bytes, kind_ends, FirstParameter, first_parameter, none_stand}
 
 -- the names of parameters with commas between
 abbrev listed : List (PropParameter Name) → List ℕ
@@ -51,10 +53,13 @@ listed_first : (f : ℕ → Name) {ps others : List (PropParameter ℕ)} {p : Pr
     → listed (map (rename_parameter f) ps) ≡ f (parameter_name p) ++ following_parameters (map (rename_parameter f) others)
 listed_first f e = rw (e, renamed_name)
 
--- a name below `names` stands behind the byte at i, within so many bytes
+-- a name below `names` stands behind the byte at i, which is one of two, within so many bytes
 pub record NameAt (names : ℕ) (l : List ℕ) (i size : ℕ) : Type 0 where
   pub inside : i + size ≤ length l
   pub below : number_at l (i + 1) < names
+  pub known : get_or l i 0 < 2
+  -- where the parameter ends, by its kind
+  pub ends : (k : ParameterKind) → get_or l i 0 ≡ kind_byte k → Ends (parameter_coding names) l i (i + kind_size k)
 
 module _ (f : ℕ → Name) (names : ℕ) (l : List ℕ) (ps : List (PropParameter ℕ)) where
   abbrev named : List (PropParameter Name)
@@ -110,7 +115,12 @@ module _ (f : ℕ → Name) (names : ℕ) (l : List ℕ) (ps : List (PropParamet
       bytes = parameter_bytes names l i next.parameter (encode_parameters next.others ++ s.rest) next.first
 
       pub parameter_name_lem : NameAt names l i 3
-      parameter_name_lem = record { inside = bytes.inside; below = rw bytes.name bytes.below }
+      parameter_name_lem = record {
+        inside = bytes.inside;
+        below = rw bytes.name bytes.below;
+        known = omega (arith, bytes.kind);
+        ends = kind_ends names l i next.parameter (encode_parameters next.others ++ s.rest) (omega (arith, bytes.inside)) next.first;
+      }
 
       module _ {j : ℕ} (ends : Ends (parameter_coding names) l i j) where
         -- its name, and what separates it from the others

@@ -17,7 +17,7 @@ ghost use Rattle.prop.specs.Propositions.{prop_named, text_at, part_at, HasAtom,
 
 use number::{number_at, pair_offset};
 use output::Sink;
-use prefix_code::{Connective, Head, Quantifier, Shape, WEAKEST, head_end, parameter_end};
+use prefix_code::{Connective, Head, ParameterKind, Quantifier, Shape, WEAKEST, known_head_end};
 pub use propositions::Propositions;
 
 // Code, place, count of names and ends stand loose in the filling, as in prefix_code: the ends are what it writes.
@@ -31,7 +31,7 @@ pub fn fill_ends(code: &[u8], at: usize, names: usize, ends: &mut [u16]) -> usiz
     requires { Fillable names code.now at ends.old }
     ensures { Filled (prop_at names code.now at) ends.old at ends.new result }
 {
-    let mut i = head_end(code, at, names);
+    let mut i = known_head_end(code, at, names);
     for _ in 0..Head::of_known(code[at]).parts() {
         i = fill_ends(code, i, names, ends);
     }
@@ -121,7 +121,7 @@ fn put_atom<S: Sink<u8>>(
     let mut i = parameters;
     for left in (0..count).rev() {
         sink.put_all(propositions.memory.name(number_at(code, i + 1)));
-        i = parameter_end(code, i, propositions.memory.vocabulary.name_count);
+        i += ParameterKind::of_known(code[i]).size();
         if 0 < left {
             sink.put_all(b", ");
         }

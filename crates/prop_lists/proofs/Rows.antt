@@ -18,8 +18,7 @@ use Rattle.prefix_code.specs.Row.{encode_row, CodableRow, row_coding}
 use Rattle.prefix_code.proofs.Positions.{after, extent}
 use Rattle.prefix_code.proofs.Heads.{HeadAt}
 use Rattle.prefix_code.proofs.Forms.{inside_at}
-use Rattle.prefix_code.proofs.Reading.{inside}
-use Rattle.prefix_code.proofs.Rows.{head_of, parts, row_code, head_codable, codable_append}
+use Rattle.prefix_code.proofs.Reading.{prop_at_lem, present}
 use Rattle.vocabulary.specs.declared.Vocabulary.{Vocabulary}
 use Rattle.vocabulary.specs.Vocabulary.{code_in, prop_in, SomeProposition}
 use Rattle.prop_lists.specs.Row.{Row, and_after, read_row, propositions_from}
@@ -94,19 +93,16 @@ module _ (names : ℕ) (code : List ℕ) (at end : ℕ) where
 
 -- Of a proposition in a memory, whose code was cut out and scanned: it is a row of one, and has its entries.
 module _ {bytes : List ℕ} {v : Vocabulary} {at : ℕ} (there : SomeProposition bytes v at) {code : List ℕ} (cut : code ≡ code_in bytes v) where
-  pub begins : at ≤ length code
-  begins = rw cut (omega (arith, (inside there.present).start))
-
-  stands_there : At v.name_count code at (prop_at v.name_count code at) there.present.rest
-  stands_there = rw (← cut) at there.present.stands
+  pub present_there : Present v.name_count code at
+  present_there = rw cut there.present
 
   module _ {end : ℕ} (scanned : Scanned v.name_count code at end) where
     pub row_there : Row v.name_count code at end
-    row_there = row_of _ code at end _ _ stands_there (scanned.found _ _ stands_there)
+    row_there = row_of _ code at end _ _ present_there.stands (scanned.found _ _ present_there.stands)
 
     pub entries_there : (list : TermList) → entries_from v.name_count list code at end ≡ entries list (prop_in bytes v at)
     unfolding prop_in
-    entries_there list = rw (← cut) (entries_of _ code at end _ _ stands_there (scanned.found _ _ stands_there) list)
+    entries_there list = rw (← cut) (entries_of _ code at end _ _ present_there.stands (scanned.found _ _ present_there.stands) list)
 
 -- at the end of a row no entry is left
 pub nothing_left : (names : ℕ) (code : List ℕ) (at end : ℕ) (list : TermList) → end ≤ at → entries_from names list code at end ≡ []

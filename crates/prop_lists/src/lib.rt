@@ -11,7 +11,7 @@ ghost use Rattle.prop_lists.specs.UseSinkLaws.{UseSinkLaws};
 
 use definitions::TermList;
 use output::Sink;
-use prefix_code::{Shape, head_end, scan, shape_at};
+use prefix_code::{Shape, known_end, known_head_end, shape_at};
 use vocabulary::Memory;
 
 // An entry of a list: the number of a name, and an atom's parameter count or 0 for a datatype. The count is no Option: a datatype is declared
@@ -96,12 +96,12 @@ pub fn put_entries<S: UseSink>(sink: &mut S, list: TermList, memory: &Memory, at
 {
     let code = memory.code();
     let names = memory.vocabulary.name_count;
-    let end = scan(code, at, names);
+    let end = known_end(code, at, names);
     let mut i = at;
     while i < end {
         if let Some(entry) = own_entry(list, shape_at(code, i)) {
             sink.put_use(entry.name as u16, entry.count);
         }
-        i = head_end(code, i, names);
+        i = known_head_end(code, i, names);
     }
 }

@@ -21,7 +21,7 @@ use Rattle.prop_numbers.specs.Standing.{standing, node_limit, stops, name_space,
 use Rattle.prop_numbers.specs.Answering.{Alike}
 use Rattle.prop_numbers.proofs.Equality.{rename_injective}
 use Rattle.prop_numbers.proofs.Fronts.{byte_of, connective_made}
-use Rattle.prop_numbers.proofs.Opening.{opened, binary_connective}
+use Rattle.prop_numbers.proofs.Opening.{left_present, opened, binary_connective}
 use Rattle.prop_numbers.proofs.Alike.{same_sides}
 use Rattle.prop_numbers.proofs.Halves.{rep_is, left_made, right_made, left_stands, halves, half, sides_of}
 
@@ -51,7 +51,8 @@ left_lighter {code} {mades} c space h (made k d l u e shape left right) head = r
 pub right_lighter : {code : List ℕ} {mades : List Made} {lo hi p end : ℕ} {a : Prop ℕ} (c : Connective) → length code ≤ standing → hi ≤ node_limit → Rep code mades lo hi p a
     → connective_of code mades p ≡ Some c → RightOf code mades p end → weight end < weight p
 right_lighter {code} {mades} {end = end} c space h (stands {p = p} low there) head side =
-    let s = halves c space (record { low = low; there = there }) (byte_of code mades c low head) (side.scanned low) in
+    let byte = byte_of code mades c low head in
+    let s = halves c space (record { low = low; there = there }) byte (side.scanned low (left_present code p c there byte)) in
     omega (arith, weight_stands p low, weight_stands end s.right.low, s.later)
 right_lighter {code} {mades} c space h (made k d l u e shape left right) head side =
     rw (side.is ∙ right_made mades k _) (lighter u h right)

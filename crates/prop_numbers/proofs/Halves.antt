@@ -2,7 +2,7 @@
 use Prim.Native.Nat.{ℕ, ◌+◌, ◌-◌, ◌≤◌, ◌<◌}
 use mathlib.Core.Path.{◌≡◌, refl, sym, ap, ◌∙◌}
 use mathlib.Core.Logic.{by_cases}
-use mathlib.Core.List.{List, ◌++◌}
+use mathlib.Core.List.{List}
 use native.Mathlib.Omega.{arith}
 use native.Mathlib.Decide.{dec_le}
 use lib.ListN.{length, get_or}
@@ -16,20 +16,19 @@ use Rattle.prefix_code.specs.Shape.{meant}
 use Rattle.prefix_code.specs.declared.Connective.{Connective}
 use Rattle.prefix_code.specs.declared.Connective.TheVariants.{Or, Impl}
 use Rattle.prefix_code.specs.Scan.{Scanned}
-use Rattle.prefix_code.proofs.Reading.{prop_at_lem, present, inside}
-use Rattle.prefix_code.proofs.Heads.{connective_byte_lem}
-use Rattle.prefix_code.proofs.Forms.{binary_at}
+use Rattle.prefix_code.proofs.Reading.{prop_at_lem, inside}
 use Rattle.prop_numbers.specs.declared.Made.{Made}
 use Rattle.prop_numbers.specs.Standing.{slot, standing, node_limit, stops, name_space, Stood, Rep, stands, made, Known, Space, connective_of, left_of, right_of, Shaped}
 use Rattle.prop_numbers.specs.Answering.{Expected}
 use Rattle.prop_numbers.proofs.Fronts.{connective_made, byte_of, dec_connective}
-use Rattle.prop_numbers.proofs.Opening.{standing_sides, Sides, opened}
+use Rattle.prop_numbers.proofs.Opening.{left_present, standing_sides, Sides, opened}
 
 -- where a code that is there ends
 pub scanned_of : {code : List ℕ} {i : ℕ} → Present name_space code i → Scanned name_space code i (i + length (encode (prop_at name_space code i)))
 scanned_of {code} {i} there = record {
+  starts = record { value = prop_at name_space code i; rest = there.rest; stands = there.stands };
   found = λ a rest s. ap (λ (p : Prop ℕ). i + length (encode p)) (prop_at_lem name_space code i a rest s);
-  only = λ h. (prop_at name_space code i, there.rest, there.stands, refl);
+  inside = (inside there).end;
 }
 
 pub rep_low : {code : List ℕ} {mades : List Made} {lo hi p : ℕ} {a : Prop ℕ} → Rep code mades lo hi p a → hi ≤ node_limit → p < stops
@@ -68,13 +67,6 @@ or_stands {code} {mades} (made k c l u e shape left right) h =
     let is : c ≡ Or = same_Some c Or (sym e ∙ sym (connective_made code mades k) ∙ h) in
     absurd (rw is at shape)
 
--- the left side of one that stands
-pub left_present : (code : List ℕ) (p : ℕ) (c : Connective) → Present name_space code p → get_or code p 0 ≡ connective_byte (meant c) → Present name_space code (p + 1)
-left_present code p c there byte =
-    let (low, high, _) = connective_byte_lem (meant c) in
-    let b = binary_at name_space code p there.rest (prop_at name_space code p) there.stands (omega arith) (omega arith) in
-    present name_space code (p + 1) b.left (encode b.right ++ there.rest) b.left_at
-
 -- Both sides of one that stands, by where the left one ends.
 pub record Halves (code : List ℕ) (p end : ℕ) (c : Connective) : Type 0 where
   pub is : prop_at name_space code p ≡ Binary (meant c) (prop_at name_space code (p + 1)) (prop_at name_space code end)
@@ -112,7 +104,7 @@ impl_left {code} {mades} space (made k c l u e shape left right) h =
 pub sides_of : {code : List ℕ} {mades : List Made} {lo hi p : ℕ} {a : Prop ℕ} (c : Connective) → length code ≤ standing → Rep code mades lo hi p a
     → connective_of code mades p ≡ Some c → Sides code mades lo hi p (p + 1 + length (encode (prop_at name_space code (p + 1)))) c a
 sides_of {code} {mades} {p = p} c space rep head =
-    opened _ c space rep head (λ low. scanned_of (left_present code p c (rep_stands rep low).there (byte_of code mades c low head)))
+    opened _ c space rep head (λ low. scanned_of)
 
 -- what is known can be looked up
 pub space_of : {code : List ℕ} {mades : List Made} {p : ℕ} → length code ≤ standing → length mades ≡ node_limit → Known code mades p → Space code mades p

@@ -34,6 +34,13 @@ same_connective c d e = eq_connective_true (eq-eqb (connective_byte c) (connecti
 same_meant : (c d : Connective) → meant c ≡ meant d → c ≡ d
 same_meant c d e = same_Some c d (sym (front_of c) ∙ ap (λ i. in_front (connective_byte i)) e ∙ front_of d)
 
+-- the left side of one that stands
+pub left_present : (code : List ℕ) (p : ℕ) (c : Connective) → Present name_space code p → get_or code p 0 ≡ connective_byte (meant c) → Present name_space code (p + 1)
+left_present code p c there byte =
+    let (low, high, _) = connective_byte_lem (meant c) in
+    let b = binary_at name_space code p there.rest (prop_at name_space code p) there.stands (omega arith) (omega arith) in
+    present name_space code (p + 1) b.left (encode b.right ++ there.rest) b.left_at
+
 -- the sides of one that stands
 pub record StandingSides (code : List ℕ) (p end : ℕ) (c : Connective) : Type 0 where
   pub is : prop_at name_space code p ≡ Binary (meant c) (prop_at name_space code (p + 1)) (prop_at name_space code end)
@@ -71,12 +78,13 @@ pub record Sides (code : List ℕ) (mades : List Made) (lo hi p end : ℕ) (c : 
   pub right_rep : Rep code mades lo hi (right_of mades p end) right
 
 pub opened : {code : List ℕ} {mades : List Made} {lo hi p : ℕ} {a : Prop ℕ} (end : ℕ) (c : Connective) → length code ≤ standing
-    → Rep code mades lo hi p a → connective_of code mades p ≡ Some c → (p < standing → Scanned name_space code (p + 1) end)
+    → Rep code mades lo hi p a → connective_of code mades p ≡ Some c → (p < standing → Present name_space code (p + 1) → Scanned name_space code (p + 1) end)
     → Sides code mades lo hi p end c a
 unfolding left_of right_of
 opened {code} {mades} end c space (stands {lo = lo} {hi = hi} {p = p} low there) head scanned =
     let test = lt-ltb p standing low in
-    let s = standing_sides code p end c there (byte_of code mades c low head) (scanned low) in
+    let byte = byte_of code mades c low head in
+    let s = standing_sides code p end c there byte (scanned low (left_present code p c there byte)) in
     record {
       left = prop_at name_space code (p + 1);
       right = prop_at name_space code end;

@@ -2,7 +2,7 @@
 use Rattle.std.specs.Prelude.{ℕ, ◌+◌, ◌-◌, ◌≤◌, ◌<◌, ◌≡◌, List, length, get_or, set, ltb, eqb, cond, Option, None, Some}
 use Rattle.definitions.specs.Name.{Name}
 use Rattle.definitions.specs.Prop.{Prop, Binary}
-use Rattle.prefix_code.specs.Scan.{Scanned}
+use Rattle.prefix_code.specs.Scan.{Absent, Scanned, proposition_coding}
 use Rattle.prefix_code.specs.Shape.{meant}
 use Rattle.prefix_code.specs.declared.Connective.{Connective}
 use Rattle.prefix_code.specs.declared.Connective.TheVariants.{And, Or, Impl}
@@ -79,9 +79,10 @@ left_of slots p = cond (ltb p standing) (p + 1) (slot slots (p - standing)).left
 unfoldable pub right_of : List Made → ℕ → ℕ → ℕ
 right_of slots p end = cond (ltb p standing) end (slot slots (p - standing)).right
 
--- what `right` gives: where the left side's code ends, or the number that was made
+-- what `right` gives: where the left side's code ends, and past the end of the code where none stands, or the number that was made
 pub record RightOf (code : List ℕ) (slots : List Made) (p r : ℕ) : Type 0 where
-  pub scanned : p < standing → Scanned name_space code (p + 1) r
+  pub scanned : p < standing → Present name_space code (p + 1) → Scanned name_space code (p + 1) r
+  pub past : p < standing → Absent (proposition_coding name_space) code (p + 1) → length code < r
   pub is : r ≡ right_of slots p r
 
 -- only the slots from `lo` on and before `hi` may have changed

@@ -11,7 +11,7 @@ ghost use Rattle.prop_numbers.specs.Standing.{standing, node_limit, stops, name_
 ghost use Rattle.prop_numbers.specs.Standing.{Known, Stood, Distinct};
 ghost use Rattle.prop_numbers.specs.Answering.{Alike, Agreed, SideOf, Expected, FirstSide, Projected, Makes};
 
-use prefix_code::{CODE_LIMIT, Connective, Head, scan};
+use prefix_code::{CODE_LIMIT, Connective, Head, known_end, scan};
 use proof_term::NODE_LIMIT;
 use vocabulary::NAME_LIMIT;
 
@@ -78,14 +78,14 @@ impl Propositions<'_> {
         self.made[p - STANDING].left as usize
     }
 
-    // The right side.
+    // The right side. What can be looked up need not be binary: where no proposition stands behind its byte, past the end of the code.
     #[tactic(auto, unfolding(crate::specs::Standing::right_of))]
     pub fn right(&self, p: usize) -> usize
         requires { Space self.now.code.now self.now.made.now p }
         ensures { RightOf self.now.code.now self.now.made.now p result }
     {
         if p < STANDING {
-            return scan(self.code, p + 1, NAMES);
+            return scan(self.code, p + 1, NAMES).unwrap_or(self.code.len() + 1);
         }
         self.made[p - STANDING].right as usize
     }
@@ -178,8 +178,8 @@ pub fn same_code(code: &[u8], i: usize, j: usize) -> bool
     ensures { (f : ℕ → Name) → Distinct f → result ≡ eq_prop (rename_prop f (prop_at name_space code.now i))
         (rename_prop f (prop_at name_space code.now j)) }
 {
-    let i_end = scan(code, i, NAMES);
-    let j_end = scan(code, j, NAMES);
+    let i_end = known_end(code, i, NAMES);
+    let j_end = known_end(code, j, NAMES);
     code[i..i_end] == code[j..j_end]
 }
 
@@ -189,7 +189,7 @@ pub fn side_of(code: &[u8], p: usize, connective: Connective, node: usize) -> us
     ensures { SideOf code.now p connective node result }
 {
     if code[p] == connective.byte() {
-        return scan(code, p + 1, NAMES);
+        return known_end(code, p + 1, NAMES);
     }
     STOPS + node
 }

@@ -9,8 +9,10 @@ use Rattle.definitions.specs.Prop.{PropParameter, rename_parameter}
 use Rattle.definitions.specs.Code.{u16, encode_parameter, encode_parameters, CodableParameters}
 use Rattle.output.specs.SinkLaws.{SinkLaws}
 use Rattle.prefix_code.specs.Scan.{Stands, Ends, Several, parameter_coding, parameters_coding}
-use Rattle.prefix_code.proofs.Positions.{after, extent}
-use Rattle.prefix_code.proofs.Parameters.{ParameterBytes, parameter_bytes}
+use Rattle.prefix_code.specs.Shape.{kind_byte, kind_size}
+use Rattle.prefix_code.specs.declared.ParameterKind.{ParameterKind}
+use Rattle.prefix_code.proofs.Positions.{after}
+use Rattle.prefix_code.proofs.Parameters.{ParameterBytes, parameter_bytes, kind_ends}
 use Rattle.renumbering.specs.Renumbered.{mapped, rename_parameters, Standing, Renumbers}
 use Rattle.renumbering.proofs.Writes.{Left, all_left, piece_less, none_left}
 
@@ -87,19 +89,22 @@ module _ {names : ℕ} {code numbers : List ℕ} {S : Type 0} {puts : S → List
         let f = first_of names code i needed more.others s.rest h more.stands in
         record { value = f.parameter; rest = encode_parameters f.others ++ s.rest; inside = r.inside; stands = f.stands }
 
-    pub next_inside : (s : Standing (parameters_coding names count) code at) (h : 0 < needed) {j : ℕ} → Ends (parameter_coding names) code i j → j ≤ length code
-    unfolding Stands
-    next_inside s h ends =
-        let one = next_asked s h in
-        omega (arith, ends.found one.value one.rest one.stands, extent code i (encode_parameter one.value) one.rest r.inside one.stands.1)
+    -- its byte in front is one of two
+    pub next_known : Standing (parameters_coding names count) code at → 0 < needed → (i < length code) × (get_or code i 0 < 2)
+    next_known s h = let b = parameter_at names (next_asked s h) in omega (arith, b.inside, b.kind)
 
-    pub one_written : Standing (parameters_coding names count) code at → 0 < needed → {out : S} {j : ℕ}
+    -- its end, by its kind
+    pub next_ends : Standing (parameters_coding names count) code at → 0 < needed → (k : ParameterKind) → get_or code i 0 ≡ kind_byte k
+        → Ends (parameter_coding names) code i (i + kind_size k)
+    next_ends s h = let one = next_asked s h in kind_ends names code i one.value one.rest r.inside one.stands
+
+    pub one_written : 0 < needed → {out : S} {j : ℕ}
         → Renumbers (parameter_coding names) rename_parameter code i numbers puts mid out
         → Ends (parameter_coding names) code i j
         → Remaining names code numbers puts before at count out j (needed - 1)
     unfolding rename_parameters encode_parameters
-    one_written here h {out} {j} w ends = record {
-      inside = next_inside here h ends;
+    one_written h {out} {j} w ends = record {
+      inside = ends.inside;
       some = λ ps rest s.
           let more = r.some ps rest s in
           let f = first_of names code i needed more.others rest h more.stands in

@@ -10,12 +10,9 @@ use Rattle.definitions.specs.Code.{u16, encode, Codable}
 use Rattle.definitions.proofs.PrefixCode.{code_nonempty}
 use Rattle.output.specs.SinkLaws.{SinkLaws}
 use Rattle.prefix_code.specs.Scan.{Stands, Ends}
-use Rattle.prefix_code.specs.Head.{encode_head, head_coding}
-use Rattle.prefix_code.specs.Row.{encode_row, CodableRow}
-use Rattle.prefix_code.proofs.Positions.{after, extent}
+use Rattle.prefix_code.specs.Head.{Head, TrueHead, FalseHead, BinaryHead, AtomHead, QuantifiedHead, encode_head, CodableHead, head_coding}
+use Rattle.prefix_code.proofs.Positions.{after}
 use Rattle.prefix_code.proofs.Heads.{HeadAt}
-use Rattle.prefix_code.proofs.Propositions.{headed}
-use Rattle.prefix_code.proofs.Rows.{head_of, parts, row_code, head_codable, codable_append}
 use Rattle.renumbering.specs.Renumbered.{mapped, rename_head, rename_parameters, Standing, Renumbers, Whole, PutWhole}
 use Rattle.renumbering.proofs.Writes.{Left, all_left, piece_less, none_left}
 
@@ -104,20 +101,11 @@ module _ {names : ℕ} {code numbers : List ℕ} {S : Type 0} {puts : S → List
         let f = first_head names code i more.others h more.stands in
         record { value = head_of f.proposition; rest = encode_row (parts f.proposition ++ f.others); inside = r.inside; stands = f.stands }
 
-    -- the next head ends within the code
-    pub next_inside : Whole names code → i < length code → {j : ℕ} → Ends (head_coding names) code i j → (j ≤ length code) × (i < j)
-    unfolding Stands
-    next_inside w h {j} ends =
-        let one = next_asked w h in
-        let found = ends.found one.value one.rest one.stands in
-        let within : j ≤ length code = omega (arith, found, extent code i (encode_head one.value) one.rest r.inside one.stands.1) in
-        (within, (headed names code i j ends within).further)
-
-    pub one_written : Whole names code → i < length code → {out : S} {j : ℕ}
+    pub one_written : i < length code → {out : S} {j : ℕ}
         → Renumbers (head_coding names) rename_head code i numbers puts mid out → Ends (head_coding names) code i j
         → Remaining names code numbers puts before out j
-    one_written whole h {out} {j} w ends = record {
-      inside = (next_inside whole h ends).0;
+    one_written h {out} {j} w ends = record {
+      inside = ends.inside;
       some = λ p g e.
           let more = r.some p g e in
           let f = first_head names code i more.others h more.stands in

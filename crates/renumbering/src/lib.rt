@@ -16,7 +16,7 @@ ghost use Rattle.renumbering.specs.StepOver.{ConclusionMapped, IdentifiersMapped
 use number::number_at;
 use output::Sink;
 use output::sink::{put_u16, put_u16s};
-use prefix_code::{Head, ParameterKind, head_end, parameter_end};
+use prefix_code::{Head, ParameterKind, known_head_end};
 use steps::{Conclusion, Identifier, Judgement, PROP_IS_TRUE, Rule, Step, TYPE_JUDGEMENT, step_at};
 
 // The code of a proposition with so many names, and the map that has a number for each of these. The place stands loose: it moves from call
@@ -63,7 +63,7 @@ impl MappedCode<'_> {
         let mut i = at;
         for _ in 0..count {
             self.put_parameter(i, sink);
-            i = parameter_end(self.code, i, self.names);
+            i += ParameterKind::of_known(self.code[i]).size();
         }
     }
 
@@ -106,7 +106,7 @@ pub fn put_proposition<S: Sink<u8>>(code: &[u8], names: usize, numbers: &[u16], 
     // propositions that is left in a ghost field, as prop_lists::put_entries tells.
     while i < code.len() {
         mapped.put_head(i, sink);
-        i = head_end(code, i, names);
+        i = known_head_end(code, i, names);
     }
 }
 

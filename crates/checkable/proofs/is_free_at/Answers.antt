@@ -9,17 +9,14 @@ use Rattle.prefix_code.specs.Scan.{Stands}
 use Rattle.prefix_code.proofs.Reading.{inside}
 use Rattle.checkable.proofs.Cut.{cut_end, cut_bytes, cut_whole}
 use Rattle.checkable.proofs.is_free_at.Goals as goal
-use Rattle.checkable.proofs.is_free_at.Goals.{After-scan-end}
+use Rattle.checkable.proofs.is_free_at.Goals.{After-known_end-end}
 
-ended : (c : After-scan-end) → let s = c.args in c.scan-end.result ≡ s.at + length (encode (prop_at s.names s.code.now s.at))
-ended c = cut_end c.requires c.scan-end.ensures
+ended : (c : After-known_end-end) → let s = c.args in c.known_end-end.result ≡ s.at + length (encode (prop_at s.names s.code.now s.at))
+ended c = cut_end c.requires c.known_end-end.ensures
 
 pub returns : goal.returns
 unfolding Stands
-returns c = c.is_quantifier_free.ensures _ c.requires.stands.0 (cut_bytes c.requires c.scan-end.ensures)
-
-pub scan-end-requires : goal.scan-end-requires
-scan-end-requires c = omega (arith, (inside c.requires).start)
+returns c = c.is_quantifier_free.ensures _ c.requires.stands.0 (cut_bytes c.requires c.known_end-end.ensures)
 
 pub slice_bounds-is_quantifier_free-count : goal.slice_bounds-is_quantifier_free-count
 slice_bounds-is_quantifier_free-count c = omega (arith, ended c)
@@ -31,4 +28,4 @@ pub slice_bounds-is_quantifier_free-end : goal.slice_bounds-is_quantifier_free-e
 slice_bounds-is_quantifier_free-end c = omega (arith, ended c, (inside c.requires).end)
 
 pub is_quantifier_free-requires : goal.is_quantifier_free-requires
-is_quantifier_free-requires c = cut_whole c.requires c.scan-end.ensures
+is_quantifier_free-requires c = cut_whole c.requires c.known_end-end.ensures

@@ -5,14 +5,14 @@ use Rattle.prefix_code.proofs.Heads.{headless, atom_ends}
 use Rattle.prefix_code.proofs.atom_end.Goals as goal
 
 pub returns-then-code-at-lt4 : goal.returns-then-code-at-lt4
-returns-then-code-at-lt4 c = headless _ _ _ _ (omega arith) (λ h rest b. omega (arith, (b.named (omega arith)).0))
+returns-then-code-at-lt4 c = headless _ _ _ (λ h rest b. omega (arith, (b.named (omega arith)).0))
 
 pub returns-then-names-number_at : goal.returns-then-names-number_at
-returns-then-names-number_at c = headless _ _ _ _ (omega arith) (λ h rest b. omega (arith, (b.named (omega arith)).1))
+returns-then-names-number_at c = headless _ _ _ (λ h rest b. omega (arith, (b.named (omega arith)).1))
 
 pub returns-then-count-gt-PARAMETER_LIMIT : goal.returns-then-count-gt-PARAMETER_LIMIT
 unfolding parameter_limit
-returns-then-count-gt-PARAMETER_LIMIT c = headless _ _ _ _ (omega arith) (λ h rest b. let (a, ps, atom) = b.atom (omega arith) in omega arith)
+returns-then-count-gt-PARAMETER_LIMIT c = headless _ _ _ (λ h rest b. let (a, ps, atom) = b.atom (omega arith) in omega arith)
 
 pub returns : goal.returns
 unfolding parameter_limit

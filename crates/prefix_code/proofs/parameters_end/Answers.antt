@@ -17,8 +17,11 @@ loop-init c =
     let all : c.args.count - 0 ≡ c.args.count = omega arith in
     rw all (record { inside = c.requires; same = several_run _ _ (drop c.args.at c.args.code.now) })
 
-pub returns-then-code-end : goal.returns-then-code-end
-returns-then-code-end c = walk_stop _ _ _ _ _ c.loop.invariant (omega arith) c.parameter_end-end.ensures c.if-code-end.true
+pub parameter_end-requires : goal.parameter_end-requires
+parameter_end-requires c = c.loop.invariant.inside
+
+pub returns-in_err-i : goal.returns-in_err-i
+returns-in_err-i c = rw c.from_residual.ensures (walk_stop _ _ _ _ c.loop.invariant (omega arith) c.in_err-i.ensures)
 
 pub loop-preserved : goal.loop-preserved
-loop-preserved c = walk_step _ _ _ _ _ _ c.loop.invariant (omega arith) c.parameter_end-end.ensures c.if-code-end.false
+loop-preserved c = walk_step _ _ _ _ _ _ c.loop.invariant (omega arith) c.in_ok-i.ensures

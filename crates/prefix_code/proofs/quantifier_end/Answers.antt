@@ -6,13 +6,13 @@ use Rattle.prefix_code.proofs.Heads.{head_bytes, headless, quantified_stands}
 use Rattle.prefix_code.proofs.quantifier_end.Goals as goal
 
 pub returns-then-code-at-lt5 : goal.returns-then-code-at-lt5
-returns-then-code-at-lt5 c = headless _ _ _ _ (omega arith) (λ h rest b. let (q, x, t, k) = b.quantified (omega arith) in omega arith)
+returns-then-code-at-lt5 c = headless _ _ _ (λ h rest b. let (q, x, t, k) = b.quantified (omega arith) in omega arith)
 
 pub returns-then-names-number_at : goal.returns-then-names-number_at
-returns-then-names-number_at c = headless _ _ _ _ (omega arith) (λ h rest b. omega (arith, (b.named (omega arith)).1))
+returns-then-names-number_at c = headless _ _ _ (λ h rest b. omega (arith, (b.named (omega arith)).1))
 
 pub returns-then-names-number_at-2 : goal.returns-then-names-number_at-2
-returns-then-names-number_at-2 c = headless _ _ _ _ (omega arith) (λ h rest b. let (q, x, t, k) = b.quantified (omega arith) in omega arith)
+returns-then-names-number_at-2 c = headless _ _ _ (λ h rest b. let (q, x, t, k) = b.quantified (omega arith) in omega arith)
 
 pub returns : goal.returns
 returns c =

@@ -5,7 +5,7 @@ use mathlib.Core.Path.{◌≡◌}
 use native.Mathlib.Omega.{arith}
 use lib.ListN.{length, length-set, get_or}
 use Rattle.prefix_code.specs.Head.{parts_after}
-use Rattle.prefix_code.proofs.Reading.{Inside, inside}
+use Rattle.prefix_code.proofs.Reading.{Inside, inside, head_starts}
 use Rattle.prop.proofs.Filling.{room_kept, filling_starts, filling_next, filling_steps, filling_ends}
 use Rattle.prop.proofs.+fill_ends.Goals as goal
 use Rattle.prop.proofs.+fill_ends.Goals.{At-loop, After-parts-end}
@@ -21,8 +21,8 @@ entry_inside t c = omega (arith, c.loop.invariant.so_far.size, (within t c).star
 counted : (t : ℕ) → (c : After-parts-end t) → c.parts-end.result ≡ parts_after (get_or c.args.code.now c.args.at 0)
 counted t c = rw c.of_known.ensures c.parts-end.ensures
 
-pub head_end-i-requires : goal.head_end-i-requires
-head_end-i-requires t c = omega (arith, inside c.requires.present)
+pub known_head_end-i-requires : goal.known_head_end-i-requires
+known_head_end-i-requires t c = head_starts c.requires.present
 
 pub bounds-code-at : goal.bounds-code-at
 bounds-code-at t c = (inside c.requires.present).start
@@ -34,7 +34,7 @@ pub loop-init : goal.loop-init
 loop-init t c =
     let parts : ℕ = parts_after (get_or c.args.code.now c.args.at 0) in
     let all : parts - 0 ≡ parts = omega arith in
-    rw all (filling_starts _ _ _ _ _ _ _ c.requires.present.stands c.head_end-i.ensures)
+    rw all (filling_starts _ _ _ _ _ _ _ c.requires.present.stands c.known_head_end-i.ensures)
 
 pub fill_ends-i-requires : goal.fill_ends-i-requires
 fill_ends-i-requires t c =

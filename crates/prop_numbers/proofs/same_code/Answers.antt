@@ -10,19 +10,13 @@ use Rattle.prefix_code.proofs.Reading.{inside}
 use Rattle.prop_numbers.specs.Standing.{name_space}
 use Rattle.prop_numbers.proofs.Bytes.{ended, same_standing}
 use Rattle.prop_numbers.proofs.same_code.Goals as goal
-use Rattle.prop_numbers.proofs.same_code.Goals.{After-scan-j_end}
+use Rattle.prop_numbers.proofs.same_code.Goals.{After-known_end-j_end}
 
-first : (c : After-scan-j_end) → let s = c.args in c.scan-i_end.result ≡ s.i + length (encode (prop_at name_space s.code.now s.i))
-first c = ended c.requires.0 c.scan-i_end.ensures
+first : (c : After-known_end-j_end) → let s = c.args in c.known_end-i_end.result ≡ s.i + length (encode (prop_at name_space s.code.now s.i))
+first c = ended c.requires.0 c.known_end-i_end.ensures
 
-second : (c : After-scan-j_end) → let s = c.args in c.scan-j_end.result ≡ s.j + length (encode (prop_at name_space s.code.now s.j))
-second c = ended c.requires.1 c.scan-j_end.ensures
-
-pub scan-i_end-requires : goal.scan-i_end-requires
-scan-i_end-requires c = omega (arith, (inside c.requires.0).start)
-
-pub scan-j_end-requires : goal.scan-j_end-requires
-scan-j_end-requires c = omega (arith, (inside c.requires.1).start)
+second : (c : After-known_end-j_end) → let s = c.args in c.known_end-j_end.result ≡ s.j + length (encode (prop_at name_space s.code.now s.j))
+second c = ended c.requires.1 c.known_end-j_end.ensures
 
 pub slice_bounds-eq-count : goal.slice_bounds-eq-count
 slice_bounds-eq-count c = omega (arith, first c)
@@ -34,15 +28,15 @@ pub slice_bounds-eq-end : goal.slice_bounds-eq-end
 slice_bounds-eq-end c = omega (arith, first c, (inside c.requires.0).end)
 
 pub slice_bounds-eq-count-2 : goal.slice_bounds-eq-count-2
-slice_bounds-eq-count-2 c = omega (arith, second (goal.at.slice_bounds-eq-count-2 c).After-scan-j_end)
+slice_bounds-eq-count-2 c = omega (arith, second (goal.at.slice_bounds-eq-count-2 c).After-known_end-j_end)
 
 pub slice_bounds-eq-start-2 : goal.slice_bounds-eq-start-2
-slice_bounds-eq-start-2 c = omega (arith, second (goal.at.slice_bounds-eq-start-2 c).After-scan-j_end)
+slice_bounds-eq-start-2 c = omega (arith, second (goal.at.slice_bounds-eq-start-2 c).After-known_end-j_end)
 
 pub slice_bounds-eq-end-2 : goal.slice_bounds-eq-end-2
-slice_bounds-eq-end-2 c = omega (arith, second (goal.at.slice_bounds-eq-end-2 c).After-scan-j_end, (inside c.requires.1).end)
+slice_bounds-eq-end-2 c = omega (arith, second (goal.at.slice_bounds-eq-end-2 c).After-known_end-j_end, (inside c.requires.1).end)
 
 pub returns : goal.returns
 returns c =
     λ f one.
-    same_standing c.requires.0 c.requires.1 c.scan-i_end.ensures c.scan-j_end.ensures f one (c.eq.ensures ∙ sym (eq_name_is _ _))
+    same_standing c.requires.0 c.requires.1 c.known_end-i_end.ensures c.known_end-j_end.ensures f one (c.eq.ensures ∙ sym (eq_name_is _ _))
