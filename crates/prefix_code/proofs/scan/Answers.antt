@@ -27,9 +27,6 @@ returns c =
     let none : c.loop-needed.needed ≡ 0 = omega arith in
     walk_end _ _ _ c.requires (rw none at c.loop-needed.invariant.0)
 
-pub loop-needed-init : goal.loop-needed-init
-loop-needed-init c = (record { inside = c.requires; same = λ rest. Iff.rfl }, omega arith)
-
 pub head_end-requires : goal.head_end-requires
 head_end-requires c = c.loop-needed.invariant.0.inside
 
