@@ -95,6 +95,10 @@ module _ {code : List ℕ} {scope : List (Option ℕ)} {mades : List Made} {t : 
 pub known_stood : {code : List ℕ} {mades : List Made} {p : ℕ} → Stood code p → Known code mades p
 known_stood {code} {mades} {p} s = record { lo = 0; hi = 0; prop = prop_at name_space code p; rep = stood_rep s; last = omega arith }
 
+-- what stands has a number below the limit
+pub stood_low : {code : List ℕ} {p : ℕ} → Stood code p → p < number_limit
+stood_low s = omega (arith, s.low)
+
 -- an answer of the term that record m holds, in whatever way its node and its scope were found
 module _ {records code : List ℕ} {stride : ℕ} {scope : List (Option ℕ)} {mades : List Made} {m n : ℕ} where
   pub inferred_at : {t : ProofTerm ℕ} {scope' : List (Option ℕ)} {mades' : List Made} {r : ℕ} → term_of code stride records m ≡ t → InfersAs code scope mades' t n r → scope' ≡ scope

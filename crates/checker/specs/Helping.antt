@@ -28,9 +28,14 @@ pub record BodyTested (records code : List ℕ) (stride m p node r : ℕ) : Type
   pub is : test ≡ true → Scanned name_space code (p + 1) r
   pub other : test ≡ false → r ≡ stops + node
 
-pub record BodySide (records code : List ℕ) (stride m p node r : ℕ) : Type 0 where
-  pub tested : get_or code p 0 ≡ connective_byte impl → BodyTested records code stride m p node r
-  pub other : (get_or code p 0 ≡ connective_byte impl → ⊥) → r ≡ stops + node
+-- it is no implication, or has another left side: then the node
+pub record BodyDiffers (records code : List ℕ) (stride m p node n : ℕ) : Type 0 where
+  pub at : n ≡ node
+  pub label : get_or code p 0 ≡ connective_byte impl → LabelTested records code stride m (p + 1) false
+
+-- the side that a function's body has, or the node
+abbrev pub BodySide : List ℕ → List ℕ → ℕ → ℕ → ℕ → ℕ → Result ℕ ℕ → Type 0
+BodySide records code stride m p node r = MatchResult r (BodyFits records code stride m p) (BodyDiffers records code stride m p node)
 
 -- a name bound, and what that hides
 pub record Bound (scope : List (Option ℕ)) (name p : ℕ) (after : List (Option ℕ)) (r : Option ℕ) : Type 0 where

@@ -25,16 +25,25 @@ pub record Agreed (code : List ℕ) (made : List Made) (r p node answer x : ℕ)
   pub stop : stops ≤ r → x ≡ r
   pub tested : r < stops → Tested code made r p node answer x
 
--- where the left side of what stands at p ends, if it has that connective; else a stop at the node
-pub record SideOf (code : List ℕ) (p : ℕ) (c : Connective) (node r : ℕ) : Type 0 where
-  pub found : get_or code p 0 ≡ connective_byte (meant c) → Scanned name_space code (p + 1) r
-  pub other : (get_or code p 0 ≡ connective_byte (meant c) → ⊥) → r ≡ stops + node
+-- what stands at p has that connective, and its left side ends there
+pub record Side (code : List ℕ) (p : ℕ) (c : Connective) (end : ℕ) : Type 0 where
+  pub byte : get_or code p 0 ≡ connective_byte (meant c)
+  pub scanned : Scanned name_space code (p + 1) end
 
--- what is inferred must have a connective: the answer itself, or a stop at the node
-pub record Expected (code : List ℕ) (made : List Made) (r : ℕ) (c : Connective) (node res : ℕ) : Type 0 where
-  pub stop : stops ≤ r → res ≡ r
-  pub found : r < stops → connective_of code made r ≡ Some c → res ≡ r
-  pub other : r < stops → (connective_of code made r ≡ Some c → ⊥) → res ≡ stops + node
+-- it has not: then the node
+pub record NoSide (code : List ℕ) (p : ℕ) (c : Connective) (node n : ℕ) : Type 0 where
+  pub other : get_or code p 0 ≡ connective_byte (meant c) → ⊥
+  pub at : n ≡ node
+
+-- where its left side ends, or the node
+abbrev pub SideOf : List ℕ → ℕ → Connective → ℕ → Result ℕ ℕ → Type 0
+SideOf code p c node r = MatchResult r (Side code p c) (NoSide code p c node)
+
+-- what is inferred must have a connective: the answer itself, or else the node
+pub record Expected (code : List ℕ) (made : List Made) (answer : Result ℕ ℕ) (c : Connective) (node : ℕ) (x : Result ℕ ℕ) : Type 0 where
+  pub stop : (n : ℕ) → answer ≡ Err n → x ≡ Err n
+  pub found : (r : ℕ) → answer ≡ Ok r → connective_of code made r ≡ Some c → x ≡ Ok r
+  pub other : (r : ℕ) → answer ≡ Ok r → (connective_of code made r ≡ Some c → ⊥) → x ≡ Err node
 
 -- the left side of a number
 abbrev pub FirstSide : List Made → ℕ → ℕ → Type 0

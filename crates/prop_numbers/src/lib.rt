@@ -194,7 +194,7 @@ pub fn side_of(code: &[u8], p: usize, connective: Connective, node: usize) -> us
     STOPS + node
 }
 
-// Makes a proposition of two, unless the second is a stop.
+// Makes a proposition of two, the second as `infer` answers it: its number, or the node that stops the second.
 #[tactic(auto, unfolding(crate::specs::Standing::slotted))]
 pub fn make(
     made: &mut [Made; NODE_LIMIT],

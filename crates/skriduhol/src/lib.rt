@@ -299,7 +299,11 @@ pub fn name_index(s: &[u8], slots: &mut [u16; SLOT_COUNT]) -> Result<usize, Loca
 
 // The number of a name by slots beside the sheet, if it has one: by its own index, the lowest of equal bytes. Of the sheet no more is
 // asked than where its names lie.
-pub fn find_name(s: &[u8], slots: &[u16; SLOT_COUNT], name: &[u8]) -> Result<Option<usize>, Located>
+pub fn find_name<'a>(
+    s: &'a [u8],
+    slots: &'a [u16; SLOT_COUNT],
+    name: &[u8],
+) -> Result<Option<usize>, Located>
     ensures value { result ≡ searched_of s.now (find_answer s.now slots.now name.now) }
     ensures value_2 { slots.now ≡ index_of s.now
         → result ≡ searched_of s.now (plain_answer s.now name.now) }

@@ -216,7 +216,7 @@ check_case-returns t c =
 -- What is inferred.
 pub infer-entry-requires : goal.infer-entry-requires
 infer-entry-requires t c =
-    (inferring.ident_name c.requires c.field-first.ensures.0 (sym c.kind_at-kind.ensures ∙ c.in-Ident.is), node_low c.requires)
+    inferring.ident_name c.requires c.field-first.ensures.0 (sym c.kind_at-kind.ensures ∙ c.in-Ident.is)
 
 pub infer-returns-in-Ident : goal.infer-returns-in-Ident
 infer-returns-in-Ident t c =
