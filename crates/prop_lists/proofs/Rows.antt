@@ -18,6 +18,7 @@ use Rattle.prefix_code.specs.Row.{encode_row, CodableRow, row_coding}
 use Rattle.prefix_code.proofs.Positions.{after, extent}
 use Rattle.prefix_code.proofs.Heads.{HeadAt}
 use Rattle.prefix_code.proofs.Forms.{inside_at}
+use Rattle.prefix_code.proofs.Propositions.{head_long}
 use Rattle.prefix_code.proofs.Reading.{prop_at_lem, present}
 use Rattle.vocabulary.specs.declared.Vocabulary.{Vocabulary}
 use Rattle.vocabulary.specs.Vocabulary.{code_in, prop_in, SomeProposition}
