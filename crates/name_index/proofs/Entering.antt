@@ -13,13 +13,13 @@ use Rattle.name_index.proofs.Probing.{free_slot_below}
 -- What the answer of probing says of the search and of the free slot.
 held : (o : Option ℕ) (p i : ℕ) → held_or o p ≡ Ok i → o ≡ Some i
 unfolding held_or
-held None p i e = absurd (let z : ◌≡◌ {A = ℕ} 0 1 = cc in omega arith)
+held None p i e = absurd (grind arith)
 held (Some j) p i e = cc
 
 absent : (o : Option ℕ) (p at : ℕ) → held_or o p ≡ Err at → (o ≡ None) × (p ≡ at)
 unfolding held_or
 absent None p at e = (refl, cc)
-absent (Some j) p at e = absurd (let z : ◌≡◌ {A = ℕ} 0 1 = cc in omega arith)
+absent (Some j) p at e = absurd (grind arith)
 
 module _ (name : ℕ → Name) (slots : List ℕ) (x : Name) where
   pub found_held : {i : ℕ} → probed name slots x ≡ Ok i → Some i ≡ (find name slots x)

@@ -26,6 +26,7 @@ use Rattle.definitions.proofs.Lowest.{all_fail}
 use Rattle.definitions.proofs.Shape.{nesting_same, length_twice}
 use Rattle.definitions.proofs.Readings.{Bytes, marked_bytes}
 use Rattle.definitions.proofs.PrefixCode.{encode_decode}
+use Rattle.definitions.proofs.Ranges.{in_range}
 use Rattle.definitions.proofs.Renaming.{export_same}
 use Rattle.reading_laws.specs.Coded.{FewParameters, Coded}
 use Rattle.reading_laws.proofs.EachLabel.{join_each}
@@ -321,21 +322,8 @@ module _ (s : List ℕ) (bytes : Bytes s) where
 
   -- the header's numbers within their ranges
   ranges : header_out_of_range s ≡ false → (names s ≤ 512) × (code_length s ≤ 8192) × (1 ≤ steps s) × (steps s ≤ 1024)
-  unfolding header_out_of_range name_limit code_limit step_limit
-  ranges e =
-      let T = ltb text_limit (text_length s) in
-      let N = ltb 512 (names s) in
-      let C = ltb 8192 (code_length s) in
-      let P = ltb (propositions s) 1 || ltb proposition_limit (propositions s) in
-      let S = ltb (steps s) 1 || ltb 1024 (steps s) in
-      let G = leb (propositions s) (goal s) in
-      let a = or_parts (T || N || C || P || S) G e in
-      let b = or_parts (T || N || C || P) S a.0 in
-      let c = or_parts (T || N || C) P b.0 in
-      let d = or_parts (T || N) C c.0 in
-      let f = or_parts T N d.0 in
-      let g = or_parts (ltb (steps s) 1) (ltb 1024 (steps s)) b.1 in
-      (ltb-false 512 (names s) f.1, ltb-false 8192 (code_length s) d.1, ltb-false (steps s) 1 g.0, ltb-false 1024 (steps s) g.1)
+  unfolding name_limit code_limit step_limit
+  ranges e = let r = in_range s e in (r.names, r.code, r.some_step, r.steps)
 
   limited_export : (root : ProofTree ℕ) (t : ProofTerm Name) → admitted s ≡ accepted root → export (rename_tree (name_of s) root) checking ≡ accepted t → Limited t × Each Coded (λ x. Prim.Unit {0}) t
   unfolding Fair node_limit term_nesting_limit name_limit root_of tree_of deep_tree tree_nesting_limit

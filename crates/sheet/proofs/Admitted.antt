@@ -36,7 +36,7 @@ use Rattle.sheet.proofs.Slices.{lengths}
 
 is_some : {A : Type 0} (o : Option A) (d : A) → is_none o ≡ false → o ≡ Some (unwrap_or o d)
 unfolding is_none
-is_some None d e = absurd (let z : ◌≡◌ {A = ℕ} 0 1 = cc in omega arith)
+is_some None d e = absurd (grind arith)
 is_some (Some a) d e = refl
 
 empty : {A : Type 0} (l : List A) → length l ≤ 0 → l ≡ []

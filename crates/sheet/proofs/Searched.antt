@@ -11,20 +11,20 @@ use Rattle.definitions.proofs.Outcomes.{none_lowest}
 -- the lowest place lies below the count
 lowest_below : (test : ℕ → Bool) (count : ℕ) {i : ℕ} → lowest test count ≡ Some i → i < count
 unfolding lowest first_of
-lowest_below test zero e = absurd (let z : ◌≡◌ {A = ℕ} 0 1 = cc in omega arith)
+lowest_below test zero e = absurd (grind arith)
 lowest_below test (suc count) {i} e = go (lowest test count) (test count) refl e (λ j. lowest_below test count)
   where
     go : (earlier : Option ℕ) (here : Bool) → lowest test count ≡ earlier → first_of earlier here count ≡ Some i
         → ((j : ℕ) → lowest test count ≡ Some j → j < count) → i < suc count
     go (Some j) here same f below = let is : j ≡ i = cc in omega (arith, below j same)
     go None true same f below = let is : count ≡ i = cc in omega arith
-    go None false same f below = absurd (let z : ◌≡◌ {A = ℕ} 0 1 = cc in omega arith)
+    go None false same f below = absurd (grind arith)
 
 -- where a place would be refused and nothing is, there is none
 pub no_place : (o : Option ℕ) (number : ℕ) {a : Unit {0}} → accepted a ≡ refuse_at o number → o ≡ None
 unfolding refuse_at refuse
 no_place None number e = refl
-no_place (Some i) number e = absurd (let z : ◌≡◌ {A = ℕ} 0 1 = cc in omega arith)
+no_place (Some i) number e = absurd (grind arith)
 
 -- Of a search:
 module _ (test : ℕ → Bool) (count : ℕ) {r : Option ℕ} (answer : r ≡ lowest test count) where

@@ -42,7 +42,7 @@ module _ {A : Type 0} (h : Sheet) {m : Outcome A} where
   answer_accepted same e = rw (same, ← e)
 
 pub refused_not_accepted : {r : Result Sheet Refusal} {x : Refusal} {h : Sheet} → r ≡ Err x → r ≡ Ok h → ⊥
-refused_not_accepted e q = let z : ◌≡◌ {A = ℕ} 0 1 = cc in omega arith
+refused_not_accepted e q = grind arith
 
 -- What the answer of a whole stage says.
 module _ {A : Type 0} (h : Sheet) {r : Result Sheet Refusal} where

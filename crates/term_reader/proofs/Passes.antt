@@ -66,7 +66,7 @@ measured list text names code work (Some size) read =
 -- there is a term, or there is none
 not_both : {t : ProofTerm Name} {o : Outcome (ProofTerm Name)} → o ≡ accepted t → o ≡ refuse 20 0 → ⊥
 unfolding refuse
-not_both e f = let z : ◌≡◌ {A = ℕ} 0 1 = cc in omega (arith, z)
+not_both e f = grind arith
 
 module _ {t : ProofTerm Name} {list : List ℕ} {names : NameTable} {work : Work} {size : ℕ} (first : Measured t list names work size) where
   pub no_labels : size ≡ 0 → (code : List ℕ) → WholeTerm t (scene_of list names.text.now names code code) work

@@ -34,11 +34,11 @@ module _ (name : ℕ → Name) (n : ℕ) (x : Name) where
   held_first slot i (is_lowest {j} l same earlier) e =
       let here : j ≡ i = cc in
       rw (← here) (record { below = l; same = same; earlier = earlier })
-  held_first slot i (there_is_none absent) e = absurd (let z : ◌≡◌ {A = ℕ} 0 1 = cc in omega arith)
+  held_first slot i (there_is_none absent) e = absurd (grind arith)
 
   absent : {o : Option ℕ} (slot place : ℕ) → LowestNumber name n x o → held_or o slot ≡ Err place → (i : ℕ) → i < n → name i ≡ x → ⊥
   unfolding held_or
-  absent slot place (is_lowest l same earlier) e = absurd (let z : ◌≡◌ {A = ℕ} 0 1 = cc in omega arith)
+  absent slot place (is_lowest l same earlier) e = absurd (grind arith)
   absent slot place (there_is_none all) e = all
 
 -- Names that agree below a count are found alike.
