@@ -1,7 +1,7 @@
 -- A case whose head is inferred: the disjunction that stands, and the two branches under their binders.
 use Prim.Native.Nat.{ℕ, ◌+◌, ◌≤◌, ◌<◌}
 use mathlib.Core.Path.{◌≡◌, refl, ap, ◌∙◌}
-use Rattle.std.specs.Prelude.{Option, Some}
+use Rattle.std.specs.Prelude.{Option, Some, Result, Ok, Err}
 use mathlib.Core.List.{List}
 use native.Mathlib.Omega.{arith}
 use lib.ListN.{length, set}
@@ -16,7 +16,7 @@ use Rattle.proof_term.specs.declared.nodes.Kind.TheVariants as variant
 use Rattle.proof_term.proofs.Views.{number_of_kind}
 use Rattle.proof_term.specs.Records.{field_at}
 use Rattle.prop_numbers.specs.declared.Made.{Made}
-use Rattle.prop_numbers.specs.Standing.{stops, name_space, Stood, Space, Kept}
+use Rattle.prop_numbers.specs.Standing.{name_space, Stood, Space, Kept}
 use Rattle.prop_numbers.specs.Answering.{Expected}
 use Rattle.prop_numbers.proofs.Reps.{kept_wider, kept_then}
 use Rattle.prop_numbers.proofs.Fronts.{byte_of}
@@ -58,19 +58,19 @@ module _ {records code : List ℕ} {stride : ℕ} {scope : List (Option ℕ)} {m
   head_few = few j (n + 1) view.first (omega (arith, j.room, view.size))
 
   -- Of the head's answer:
-  module _ {scope₁ : List (Option ℕ)} {mades₁ : List Made} {r : ℕ} (i : Inferred records code stride scope mades a (n + 1) scope₁ mades₁ r) where
-    pub head_space : r < stops → Space code mades₁ r
+  module _ {scope₁ : List (Option ℕ)} {mades₁ : List Made} {r : Result ℕ ℕ} (i : Inferred records code stride scope mades a (n + 1) scope₁ mades₁ r) where
+    pub head_space : (p : ℕ) → r ≡ Ok p → Space code mades₁ p
     head_space = answer_space i.answer j.ends.space (i.kept.long ∙ j.slots) (omega (arith, j.room, view.size))
 
     pub entries : Entries code scope₁
     entries = rw i.same j.entries
 
-    module _ {h : ℕ} (x : Expected code mades₁ r Or n h) where
-      pub head_unopened : stops ≤ h → Unopened code scope (term a) (n + 1) Or n h
+    module _ {opened : Result ℕ ℕ} (x : Expected code mades₁ r Or n opened) where
+      pub head_unopened : {k : ℕ} → opened ≡ Err k → Unopened code scope (term a) (n + 1) Or n k
       head_unopened l = unopened i.answer x l
 
       -- it is a disjunction that stands
-      module _ (l : h < stops) where
+      module _ {h : ℕ} (l : opened ≡ Ok h) where
         pub head_opening : Opening code scope mades₁ (term a) (n + 1) Or h
         head_opening = opening i.answer x l
 

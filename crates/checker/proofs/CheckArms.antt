@@ -1,12 +1,12 @@
 -- The arms of `check`, call by call: what each call may ask, and what its answer comes to.
-use Prim.Native.Nat.{ℕ, ◌+◌, ◌-◌, ◌≤◌, ◌<◌}
+use Prim.Native.Nat.{ℕ, ◌+◌, ◌-◌}
 use mathlib.Core.Path.{◌≡◌, refl, sym, ap, ◌∙◌}
 use mathlib.Core.Logic.{by_cases}
 use mathlib.Core.Bool.{Bool, true, false, cond}
-use Rattle.std.specs.Prelude.{Option, Some}
+use Rattle.std.specs.Prelude.{Option, Some, Result, Ok, Err}
 use mathlib.Core.List.{List}
 use native.Mathlib.Omega.{arith}
-use native.Mathlib.Decide.{ℕ_discrete, dec_le}
+use native.Mathlib.Decide.{ℕ_discrete}
 use lib.ListN.{length, get_or, set}
 use Rattle.definitions.specs.Prop.{Prop, impl, connective_byte}
 use Rattle.definitions.specs.Term.{ProofTerm, Pair, Function}
@@ -17,22 +17,22 @@ use Rattle.proof_term.specs.declared.nodes.Kind.TheVariants as variant
 use Rattle.proof_term.proofs.Views.{number_of_kind}
 use Rattle.proof_term.specs.Records.{field_at, parameter_label}
 use Rattle.prop_numbers.specs.declared.Made.{Made}
-use Rattle.prop_numbers.specs.Standing.{stops, name_space, Stood, Known}
-use Rattle.prop_numbers.specs.Answering.{SideOf, Expected, Tested, Agreed}
+use Rattle.prop_numbers.specs.Standing.{name_space, Stood, Known}
+use Rattle.prop_numbers.specs.Answering.{Side, NoSide, Expected, Tested, Agreed}
 use Rattle.prop_numbers.proofs.Reps.{kept_all, kept_wider}
-use Rattle.prop_numbers.proofs.Halves.{Halves, halves, half}
+use Rattle.prop_numbers.proofs.Halves.{Halves, half}
 use Rattle.checker.specs.Asking.{OfKind, label_prop, term_of, Few, NameHeld, Well, Judgeable}
 use Rattle.checker.specs.Judging.{ChecksAs, Inferred, Checked}
-use Rattle.checker.specs.Helping.{After, LabelTested, Bound, BodySide, BodyTested}
+use Rattle.checker.specs.Helping.{After, Bound, BodyFits, BodyDiffers}
 use Rattle.checker.proofs.Forms.{One, Two, function_view, pair_view, inl_view, inr_view, abort_view, sorry_is, let_is}
 use Rattle.checker.proofs.Checking.{pair_other, function_other, inl_other, inr_other, pair_fails, pair_then, inl_part, inr_part, function_label, function_body, abort_part, sorry_passes, let_fails, case_unopened, case_fails, case_then, Falls, fall_stops, fall_same, fall_differ}
-use Rattle.checker.proofs.Steps.{Call, call, bound_in, restored, side_halves, side_other, known_answer, checked_at, checks_under}
+use Rattle.checker.proofs.Steps.{Call, call, bound_in, restored, side_halves, known_answer, checked_at, checks_under}
 use Rattle.checker.proofs.Parts.{first_call, first_few, first_kept, second_is, second_call, both_kept}
 use Rattle.checker.proofs.Cases.{head_unopened, head_opening, head_half, sides, left_name, right_name, left_under, left_back, left_kept, right_under, right_back, right_kept, right_node, term_is, view}
 
 module _ {records code : List ℕ} {stride : ℕ} {scope : List (Option ℕ)} {mades : List Made} {m n p : ℕ} (j : Judgeable records code stride scope mades m n) (stood : Stood code p)
     {a : ℕ} (ea : a ≡ field_at records m 1) where
-  abbrev At : List (Option ℕ) → List Made → ℕ → Type 0
+  abbrev At : List (Option ℕ) → List Made → Result (Unit {0}) ℕ → Type 0
   At scope' mades' r = Checked records code stride scope mades m n p scope' mades' r
 
   abbrev own : Well records code stride m
@@ -52,50 +52,32 @@ module _ {records code : List ℕ} {stride : ℕ} {scope : List (Option ℕ)} {m
     pub function_name : NameHeld records m 2
     function_name = record { held = j.held; number = omega arith; below = own.parameter (number_of_kind e (λ u. cc)) }
 
-    module _ {side : ℕ} (b : BodySide records code stride m p n side) where
-      pub function_stop : stops ≤ side → At scope mades side
-      function_stop h = by_cases (ℕ_discrete (get_or code p 0) (connective_byte impl))
-          (λ same. fits same (b.tested same) (b.tested same).test refl)
-          (λ other. rw (b.other other) (checked_at function_is.is (function_other stood _ _ _ other) refl kept_all))
-        where
-          fits : get_or code p 0 ≡ connective_byte impl → (t : BodyTested records code stride m p n side) (test : Bool) → t.test ≡ test → At scope mades side
-          fits same t true is = absurd (omega (arith, (halves Impl j.ends.space stood same (t.is is)).right.low))
-          fits same t false is =
-              rw (t.other is) (checked_at function_is.is
-              (function_label (half Impl j.ends.space stood same) t.label.is is) refl kept_all)
+    pub function_stop : {k : ℕ} → BodyDiffers records code stride m p n k → At scope mades (Err k)
+    function_stop b = rw b.at (by_cases (ℕ_discrete (get_or code p 0) (connective_byte impl))
+        (λ same. checked_at function_is.is (function_label (half Impl j.ends.space stood same) (b.label same).is refl) refl kept_all)
+        (λ other. checked_at function_is.is (function_other stood _ _ _ other) refl kept_all))
 
-      module _ (l : side < stops) where
-        -- it is an implication, and the label fits
-        record Fits : Type 0 where
-          halved : Halves code p side Impl
-          label : LabelTested records code stride m (p + 1) true
+    module _ {side : ℕ} (b : BodyFits records code stride m p side) where
+      halved : Halves code p side Impl
+      halved = side_halves j.ends.space stood b.side
 
-        fits_so : Fits
-        fits_so = by_cases (ℕ_discrete (get_or code p 0) (connective_byte impl))
-            (λ same. go same (b.tested same) (b.tested same).test refl)
-            (λ other. absurd (omega (arith, b.other other)))
-          where
-            go : get_or code p 0 ≡ connective_byte impl → (t : BodyTested records code stride m p n side) (test : Bool) → t.test ≡ test → Fits
-            go same t true is = record { halved = halves Impl j.ends.space stood same (t.is is); label = rw is at t.label }
-            go same t false is = absurd (omega (arith, t.other is))
+      pub function_left : Stood code (p + 1)
+      function_left = halved.left
 
-        pub function_left : Stood code (p + 1)
-        function_left = fits_so.halved.left
+      pub function_side : Stood code side
+      function_side = halved.right
 
-        pub function_side : Stood code side
-        function_side = fits_so.halved.right
+      module _ {bound : List (Option ℕ)} {hidden : Option ℕ} (bd : Bound scope (field_at records m 2) (p + 1) bound hidden) where
+        pub function_call : Call records code stride bound mades m a (n + 1)
+        function_call = call j function_is.less (bound_in bd function_name.below j.entries function_left) j.slots (omega (arith, j.room, function_is.size))
 
-        module _ {bound : List (Option ℕ)} {hidden : Option ℕ} (bd : Bound scope (field_at records m 2) (p + 1) bound hidden) where
-          pub function_call : Call records code stride bound mades m a (n + 1)
-          function_call = call j function_is.less (bound_in bd function_name.below j.entries function_left) j.slots (omega (arith, j.room, function_is.size))
-
-          pub function_done : {called : List (Option ℕ)} {mades' : List Made} {back : List (Option ℕ)} {r : ℕ} → Checked records code stride bound mades a (n + 1) side called mades' r
-              → back ≡ set called (field_at records m 2) hidden → At back mades' r
-          function_done c off =
-              checked_at function_is.is
-              (function_body fits_so.halved fits_so.label.is function_name.below j.entries refl (checks_under bd.bound refl c.answer))
-              (restored bd function_name.below j.entries c.same off)
-              (kept_wider n (n + nodes (term m)) (omega arith) (omega (arith, function_is.size)) c.kept)
+        pub function_done : {called : List (Option ℕ)} {mades' : List Made} {back : List (Option ℕ)} {r : Result (Unit {0}) ℕ} → Checked records code stride bound mades a (n + 1) side called mades' r
+            → back ≡ set called (field_at records m 2) hidden → At back mades' r
+        function_done c off =
+            checked_at function_is.is
+            (function_body halved b.label.is function_name.below j.entries refl (checks_under bd.bound refl c.answer))
+            (restored bd function_name.below j.entries c.same off)
+            (kept_wider n (n + nodes (term m)) (omega arith) (omega (arith, function_is.size)) c.kept)
 
   -- A pair.
   module _ (e : OfKind records m variant.Pair) where
@@ -105,56 +87,49 @@ module _ {records code : List ℕ} {stride : ℕ} {scope : List (Option ℕ)} {m
     pub pair_few : Few records a (n + 1)
     pair_few = first_few j pair_is
 
-    module _ {side : ℕ} (s : SideOf code p And n side) where
-      pub pair_stop : stops ≤ side → At scope mades side
-      pair_stop h =
-          let other = side_other j.ends.space stood s h in
-          rw (s.other other) (checked_at pair_is.is (pair_other stood _ _ other) refl kept_all)
+    pub pair_stop : {k : ℕ} → NoSide code p And n k → At scope mades (Err k)
+    pair_stop s = rw s.at (checked_at pair_is.is (pair_other stood _ _ s.other) refl kept_all)
 
-      module _ (l : side < stops) where
-        pub pair_halves : Halves code p side And
-        pair_halves = side_halves j.ends.space stood s l
+    module _ {side : ℕ} (s : Side code p And side) where
+      pub pair_halves : Halves code p side And
+      pair_halves = side_halves j.ends.space stood s
 
-        pub pair_call : Call records code stride scope mades m a (n + 1)
-        pair_call = first_call j pair_is
+      pub pair_call : Call records code stride scope mades m a (n + 1)
+      pair_call = first_call j pair_is
 
-        module _ {scope' : List (Option ℕ)} {mades' : List Made} {r : ℕ} (c : Checked records code stride scope mades a (n + 1) (p + 1) scope' mades' r) where
-          pub pair_fail : (r ≡ 0 → ⊥) → At scope' mades' r
-          pair_fail x = checked_at pair_is.is (pair_fails pair_halves c.answer x) c.same (first_kept j pair_is c.kept)
+      module _ {scope' : List (Option ℕ)} {mades' : List Made} {r : Result (Unit {0}) ℕ} (c : Checked records code stride scope mades a (n + 1) (p + 1) scope' mades' r) where
+        pub pair_fail : {k : ℕ} → r ≡ Err k → At scope' mades' (Err k)
+        pair_fail x = checked_at pair_is.is (pair_fails pair_halves c.answer x) c.same (first_kept j pair_is c.kept)
 
-          module _ (ok : r ≡ 0) {b next : ℕ} (eb : b ≡ field_at records m 2) (en : After records a (n + 1) next) where
-            pub pair_next : Call records code stride scope' mades' m b next
-            pair_next = second_call j pair_is c.kept eb en c.same
+        module _ {u : Unit {0}} (ok : r ≡ Ok u) {b next : ℕ} (eb : b ≡ field_at records m 2) (en : After records a (n + 1) next) where
+          pub pair_next : Call records code stride scope' mades' m b next
+          pair_next = second_call j pair_is c.kept eb en c.same
 
-            pub pair_done : {scope'' : List (Option ℕ)} {mades'' : List Made} {q : ℕ} → Checked records code stride scope' mades' b next side scope'' mades'' q → At scope'' mades'' q
-            pair_done d =
-                checked_at (second_is j pair_is c.kept eb en) (pair_then pair_halves c.answer ok (checks_under c.same (en labels) d.answer)) (d.same ∙ c.same)
-                (both_kept j pair_is c.kept eb en d.kept)
+          pub pair_done : {scope'' : List (Option ℕ)} {mades'' : List Made} {q : Result (Unit {0}) ℕ} → Checked records code stride scope' mades' b next side scope'' mades'' q → At scope'' mades'' q
+          pair_done d =
+              checked_at (second_is j pair_is c.kept eb en) (pair_then pair_halves c.answer ok (checks_under c.same (en labels) d.answer)) (d.same ∙ c.same)
+              (both_kept j pair_is c.kept eb en d.kept)
 
   -- Injections.
-  module _ {side : ℕ} (s : SideOf code p Or n side) where
-    pub inl_stop : OfKind records m variant.OrLeft → stops ≤ side → At scope mades side
-    inl_stop e h =
-        let other = side_other j.ends.space stood s h in
-        rw (s.other other) (checked_at (inl_view own ea e).is (inl_other stood _ other) refl kept_all)
+  pub inl_stop : OfKind records m variant.OrLeft → {k : ℕ} → NoSide code p Or n k → At scope mades (Err k)
+  inl_stop e s = rw s.at (checked_at (inl_view own ea e).is (inl_other stood _ s.other) refl kept_all)
 
-    pub inr_stop : OfKind records m variant.OrRight → stops ≤ side → At scope mades side
-    inr_stop e h =
-        let other = side_other j.ends.space stood s h in
-        rw (s.other other) (checked_at (inr_view own ea e).is (inr_other stood _ other) refl kept_all)
+  pub inr_stop : OfKind records m variant.OrRight → {k : ℕ} → NoSide code p Or n k → At scope mades (Err k)
+  inr_stop e s = rw s.at (checked_at (inr_view own ea e).is (inr_other stood _ s.other) refl kept_all)
 
-    pub or_halves : side < stops → Halves code p side Or
-    or_halves l = side_halves j.ends.space stood s l
+  module _ {side : ℕ} (s : Side code p Or side) where
+    pub or_halves : Halves code p side Or
+    or_halves = side_halves j.ends.space stood s
 
-    pub inl_done : {scope' : List (Option ℕ)} {mades' : List Made} {r : ℕ} → OfKind records m variant.OrLeft → side < stops → Checked records code stride scope mades a (n + 1) (p + 1) scope' mades' r → At scope' mades' r
-    inl_done e l c =
+    pub inl_done : {scope' : List (Option ℕ)} {mades' : List Made} {r : Result (Unit {0}) ℕ} → OfKind records m variant.OrLeft → Checked records code stride scope mades a (n + 1) (p + 1) scope' mades' r → At scope' mades' r
+    inl_done e c =
         let v = inl_view own ea e in
-        checked_at v.is (inl_part (or_halves l) c.answer) c.same (kept_wider n (n + nodes (term m)) (omega arith) (omega (arith, v.size)) c.kept)
+        checked_at v.is (inl_part or_halves c.answer) c.same (kept_wider n (n + nodes (term m)) (omega arith) (omega (arith, v.size)) c.kept)
 
-    pub inr_done : {scope' : List (Option ℕ)} {mades' : List Made} {r : ℕ} → OfKind records m variant.OrRight → side < stops → Checked records code stride scope mades a (n + 1) side scope' mades' r → At scope' mades' r
-    inr_done e l c =
+    pub inr_done : {scope' : List (Option ℕ)} {mades' : List Made} {r : Result (Unit {0}) ℕ} → OfKind records m variant.OrRight → Checked records code stride scope mades a (n + 1) side scope' mades' r → At scope' mades' r
+    inr_done e c =
         let v = inr_view own ea e in
-        checked_at v.is (inr_part (or_halves l) c.answer) c.same (kept_wider n (n + nodes (term m)) (omega arith) (omega (arith, v.size)) c.kept)
+        checked_at v.is (inr_part or_halves c.answer) c.same (kept_wider n (n + nodes (term m)) (omega arith) (omega (arith, v.size)) c.kept)
 
   -- the one part of these, and of an abort
   pub only_call : {F : ProofTerm ℕ → ProofTerm ℕ} → One records code stride m a F → Call records code stride scope mades m a (n + 1)
@@ -169,53 +144,55 @@ module _ {records code : List ℕ} {stride : ℕ} {scope : List (Option ℕ)} {m
   pub abort_call : OfKind records m variant.Abort → Call records code stride scope mades m a (n + 1)
   abort_call e = only_call (abort_view own ea e)
 
-  pub abort_done : {scope' : List (Option ℕ)} {mades' : List Made} {r : ℕ} → OfKind records m variant.Abort → Checked records code stride scope mades a (n + 1) (length code - 1) scope' mades' r → At scope' mades' r
+  pub abort_done : {scope' : List (Option ℕ)} {mades' : List Made} {r : Result (Unit {0}) ℕ} → OfKind records m variant.Abort → Checked records code stride scope mades a (n + 1) (length code - 1) scope' mades' r → At scope' mades' r
   abort_done e c =
       let v = abort_view own ea e in
       checked_at v.is (abort_part j.ends.bottom_is c.answer) c.same (kept_wider n (n + nodes (term m)) (omega arith) (omega (arith, v.size)) c.kept)
 
-  pub sorry_done : OfKind records m variant.Sorry → At scope mades 0
+  pub sorry_done : OfKind records m variant.Sorry → At scope mades (Ok tt)
   sorry_done e = checked_at (sorry_is own e) (sorry_passes n p) refl kept_all
 
-  pub let_done : OfKind records m variant.LetIn → At scope mades (stops + n)
+  pub let_done : OfKind records m variant.LetIn → At scope mades (Err n)
   let_done e = checked_at (let_is own e) (let_fails n p _ _ _ _) refl kept_all
 
   -- What is inferred and compared.
-  module _ {scope' : List (Option ℕ)} {mades' : List Made} {r : ℕ} (i : Inferred records code stride scope mades m n scope' mades' r) where
-    pub fall_known : r < stops → Known code mades' r
-    fall_known h = known_answer i.answer h j.room
+  module _ {scope' : List (Option ℕ)} {mades' : List Made} {r : Result ℕ ℕ} (i : Inferred records code stride scope mades m n scope' mades' r) where
+    pub fall_known : (q : ℕ) → r ≡ Ok q → Known code mades' q
+    fall_known q h = known_answer i.answer h j.room
 
-    pub fall_done : {x : ℕ} → Falls (term m) → Agreed code mades' r p n 0 x → At scope' mades' x
-    fall_done {x} falls g = by_cases (dec_le stops r)
-        (λ l. rw (g.stop l) (checked_at refl (fall_stops falls i.answer l) i.same i.kept))
-        (λ l. go (omega arith) (g.tested (omega arith)) (g.tested (omega arith)).test refl)
+    pub fall_done : {x : Result (Unit {0}) ℕ} → Falls (term m) → Agreed code mades' r p n x → At scope' mades' x
+    fall_done {x} falls g = go r refl
       where
-        go : r < stops → (t : Tested code mades' r p n 0 x) (test : Bool) → t.test ≡ test → At scope' mades' x
-        go l t true is = rw (t.is ∙ ap (λ (b : Bool). cond b 0 (stops + n)) is) (checked_at refl (fall_same falls i.answer l stood t.alike is) i.same i.kept)
-        go l t false is = rw (t.is ∙ ap (λ (b : Bool). cond b 0 (stops + n)) is) (checked_at refl (fall_differ falls i.answer l stood t.alike is) i.same i.kept)
+        tested : {q : ℕ} → r ≡ Ok q → (t : Tested code mades' q p n x) (test : Bool) → t.test ≡ test → At scope' mades' x
+        tested l t true is = rw (t.is ∙ ap (λ (b : Bool). cond b (Ok tt) (Err n)) is) (checked_at refl (fall_same falls i.answer l stood t.alike is) i.same i.kept)
+        tested l t false is = rw (t.is ∙ ap (λ (b : Bool). cond b (Ok tt) (Err n)) is) (checked_at refl (fall_differ falls i.answer l stood t.alike is) i.same i.kept)
+
+        go : (a : Result ℕ ℕ) → r ≡ a → At scope' mades' x
+        go (Err k) l = rw (g.stop k l) (checked_at refl (fall_stops falls i.answer l) i.same i.kept)
+        go (Ok q) l = tested l (g.tested q l) (g.tested q l).test refl
 
   -- A case, by what its head infers.
-  module _ (e : OfKind records m variant.Case) {scope₁ : List (Option ℕ)} {mades₁ : List Made} {r h : ℕ} (i : Inferred records code stride scope mades a (n + 1) scope₁ mades₁ r)
-      (x : Expected code mades₁ r Or n h) where
-    pub case_stop : stops ≤ h → At scope₁ mades₁ h
+  module _ (e : OfKind records m variant.Case) {scope₁ : List (Option ℕ)} {mades₁ : List Made} {r opened : Result ℕ ℕ} (i : Inferred records code stride scope mades a (n + 1) scope₁ mades₁ r)
+      (x : Expected code mades₁ r Or n opened) where
+    pub case_stop : {k : ℕ} → opened ≡ Err k → At scope₁ mades₁ (Err k)
     case_stop l =
         checked_at (view j ea e).is (case_unopened (head_unopened j ea e i x l)) i.same
         (kept_wider n (n + nodes (term m)) (omega arith) (omega (arith, (view j ea e).size)) i.kept)
 
-    module _ (l : h < stops) {b next : ℕ} (eb : b ≡ field_at records m 2) (en : After records a (n + 1) next) {bound : List (Option ℕ)} {hidden : Option ℕ}
-        (bd : Bound scope₁ (field_at records m 4) (h + 1) bound hidden) {called : List (Option ℕ)} {mades₂ : List Made} {back : List (Option ℕ)} {q : ℕ}
+    module _ {h : ℕ} (l : opened ≡ Ok h) {b next : ℕ} (eb : b ≡ field_at records m 2) (en : After records a (n + 1) next) {bound : List (Option ℕ)} {hidden : Option ℕ}
+        (bd : Bound scope₁ (field_at records m 4) (h + 1) bound hidden) {called : List (Option ℕ)} {mades₂ : List Made} {back : List (Option ℕ)} {q : Result (Unit {0}) ℕ}
         (c : Checked records code stride bound mades₁ b next p called mades₂ q) (off : back ≡ set called (field_at records m 4) hidden) where
       left_answer : ChecksAs code (set scope (field_at records m 4) (Some (h + 1))) (term b) (n + 1 + nodes (term a)) p q
       left_answer = checks_under (sym c.same ∙ left_under j ea e i x l eb en bd c.same c.kept off) (en labels) c.answer
 
-      pub case_fail : (q ≡ 0 → ⊥) → At back mades₂ q
-      case_fail other =
+      pub case_fail : {k : ℕ} → q ≡ Err k → At back mades₂ (Err k)
+      case_fail fails =
           checked_at (rw eb (view j ea e).is)
-          (case_fails {b = term (field_at records m 3)} {y = field_at records m 5} (left_name j ea e).below j.entries (head_opening j ea e i x l) (head_half j ea e i x l) left_answer other)
+          (case_fails {b = term (field_at records m 3)} {y = field_at records m 5} (left_name j ea e).below j.entries (head_opening j ea e i x l) (head_half j ea e i x l) left_answer fails)
           (left_back j ea e i x l eb en bd c.same c.kept off) (left_kept j ea e i x l eb en bd c.same c.kept off)
 
-      pub case_done : q ≡ 0 → {d last side : ℕ} → (ed : d ≡ field_at records m 3) → (el : After records b next last) → (scanned : Scanned name_space code (h + 1) side)
-          → {bound₂ : List (Option ℕ)} {hidden₂ : Option ℕ} → (bd₂ : Bound back (field_at records m 5) side bound₂ hidden₂) → {called₂ : List (Option ℕ)} {mades₃ : List Made} {back₂ : List (Option ℕ)} {q₂ : ℕ}
+      pub case_done : {u : Unit {0}} → q ≡ Ok u → {d last side : ℕ} → (ed : d ≡ field_at records m 3) → (el : After records b next last) → (scanned : Scanned name_space code (h + 1) side)
+          → {bound₂ : List (Option ℕ)} {hidden₂ : Option ℕ} → (bd₂ : Bound back (field_at records m 5) side bound₂ hidden₂) → {called₂ : List (Option ℕ)} {mades₃ : List Made} {back₂ : List (Option ℕ)} {q₂ : Result (Unit {0}) ℕ}
           → Checked records code stride bound₂ mades₂ d last p called₂ mades₃ q₂ → back₂ ≡ set called₂ (field_at records m 5) hidden₂ → At back₂ mades₃ q₂
       case_done ok ed el scanned bd₂ c₂ off₂ =
           let s = c.same in

@@ -2,28 +2,24 @@
 use Prim.Native.Nat.{ℕ, ◌+◌, ◌*◌, ◌≤◌, ◌<◌}
 use mathlib.Core.Path.{◌≡◌, refl, sym, ap, ◌∙◌}
 use mathlib.Core.Logic.{by_cases}
-use mathlib.Core.Bool.{Bool, true, false, true≢false}
+use mathlib.Core.Bool.{Bool, true, false}
 use Rattle.std.specs.Prelude.{None, Some}
 use mathlib.Core.List.{List}
 use native.Mathlib.Omega.{arith}
 use native.Mathlib.Decide.{ℕ_discrete}
-use lib.ListN.{length, get_or}
 use borrow.Author.Tests.{eq-eqb, ne_eqb}
 use Rattle.definitions.specs.Name.{Name}
-use Rattle.definitions.specs.Prop.{Prop, impl, connective_byte, rename_prop}
+use Rattle.definitions.specs.Prop.{Prop, rename_prop}
 use Rattle.definitions.specs.Equal.{eq_prop}
 use Rattle.definitions.specs.Term.{proposition, datatype, rename_label, rename_parameter_label}
 use Rattle.definitions.specs.Checker.{ensure, label_is}
 use Rattle.prefix_code.specs.PropAt.{prop_at}
-use Rattle.prefix_code.specs.Shape.{meant}
-use Rattle.prefix_code.specs.declared.Connective.{Connective}
 use Rattle.prefix_code.specs.declared.Connective.TheVariants.{Impl}
 use Rattle.proof_term.specs.Records.{field_at, label_of, parameter_label}
-use Rattle.prop_numbers.specs.Standing.{standing, stops, name_space, Stood, Distinct}
-use Rattle.prop_numbers.specs.Answering.{SideOf}
+use Rattle.prop_numbers.specs.Standing.{number_limit, name_space, Distinct}
+use Rattle.prop_numbers.specs.Answering.{NoSide}
 use Rattle.checker.specs.Asking.{label_prop}
-use Rattle.checker.specs.Helping.{LabelTested, BodySide}
-use Rattle.prop_numbers.proofs.Halves.{halves}
+use Rattle.checker.specs.Helping.{LabelTested, BodyDiffers}
 
 module _ (props : ℕ → Prop ℕ) (kind number : ℕ) where
   pub no_label : kind ≡ 0 → parameter_label props kind number ≡ None
@@ -67,31 +63,15 @@ module _ {records code : List ℕ} {stride m p form : ℕ} where
   }
 
 -- a label's number is short enough that its offset is below every stop
-pub short_stride : {stride number : ℕ} → stride ≤ 2 → number < 65536 → stride * number < stops
+pub short_stride : {stride number : ℕ} → stride ≤ 2 → number < 65536 → stride * number < number_limit
 short_stride {stride} {number} s n = by_cases (ℕ_discrete stride 0)
     (λ e. rw e (omega arith))
     (λ ne. by_cases (ℕ_discrete stride 1) (λ e. rw e (omega arith)) (λ nf. let two : stride ≡ 2 = omega arith in rw two (omega arith)))
 
 -- The side of a function's body, by whether an implication stands there and by the test of the label.
-module _ {records code : List ℕ} {stride m p node r : ℕ} where
-  pub body_stop : length code ≤ standing → Stood code p → SideOf code p Impl node r → stops ≤ r → BodySide records code stride m p node r
-  body_stop few stood s h = record {
-    tested = λ same. absurd (omega (arith, (halves Impl few stood same (s.found same)).right.low));
-    other = s.other;
-  }
+module _ {records code : List ℕ} {stride m p node : ℕ} where
+  pub body_stop : {n : ℕ} → NoSide code p Impl node n → BodyDiffers records code stride m p node n
+  body_stop s = record { at = s.at; label = λ same. absurd (s.other same) }
 
-  pub body_side : LabelTested records code stride m (p + 1) true → SideOf code p Impl node r → get_or code p 0 ≡ connective_byte impl → BodySide records code stride m p node r
-  body_side t s e = record {
-    tested = λ same. record { test = true; label = t; is = λ y. s.found same; other = λ x. absurd (true≢false x) };
-    other = λ x. absurd (x e);
-  }
-
-pub not_side : {records code : List ℕ} {stride m p node : ℕ} → LabelTested records code stride m (p + 1) false → get_or code p 0 ≡ connective_byte impl → BodySide records code stride m p node (stops + node)
-not_side t e = record {
-  tested = λ same. record { test = false; label = t; is = λ y. absurd (true≢false (sym y)); other = λ x. refl };
-  other = λ x. absurd (x e);
-}
-
--- what is no stop has the connective
-pub has_connective : {code : List ℕ} {p : ℕ} {c : Connective} {node r : ℕ} → SideOf code p c node r → r < stops → get_or code p 0 ≡ connective_byte (meant c)
-has_connective {code} {p} {c} s h = by_cases (ℕ_discrete (get_or code p 0) (connective_byte (meant c))) (λ e. e) (λ e. absurd (omega (arith, s.other e)))
+  pub not_side : LabelTested records code stride m (p + 1) false → BodyDiffers records code stride m p node node
+  not_side t = record { at = refl; label = λ same. t }

@@ -1,21 +1,17 @@
 -- The small steps between the calls of the two functions: what is asked of a part, and what stays.
 use Prim.Native.Nat.{ℕ, ◌+◌, ◌≤◌, ◌<◌}
 use mathlib.Core.Path.{◌≡◌, ◌∙◌}
-use mathlib.Core.Logic.{by_cases}
-use Rattle.std.specs.Prelude.{Option, Some}
+use Rattle.std.specs.Prelude.{Option, Some, Result, Ok}
 use mathlib.Core.List.{List}
 use native.Mathlib.Omega.{arith}
-use native.Mathlib.Decide.{ℕ_discrete}
-use lib.ListN.{length, get_or, set}
-use Rattle.definitions.specs.Prop.{connective_byte}
+use lib.ListN.{length, set}
 use Rattle.definitions.specs.Term.{ProofTerm}
 use Rattle.definitions.specs.TermText.{nodes}
 use Rattle.prefix_code.specs.PropAt.{prop_at}
-use Rattle.prefix_code.specs.Shape.{meant}
 use Rattle.prefix_code.specs.declared.Connective.{Connective}
 use Rattle.prop_numbers.specs.declared.Made.{Made}
-use Rattle.prop_numbers.specs.Standing.{standing, node_limit, stops, name_space, Stood, Known, Space, Kept}
-use Rattle.prop_numbers.specs.Answering.{SideOf, Expected}
+use Rattle.prop_numbers.specs.Standing.{standing, node_limit, number_limit, name_space, Stood, Known, Space, Kept}
+use Rattle.prop_numbers.specs.Answering.{Side, Expected}
 use Rattle.prop_numbers.proofs.Halves.{Halves, halves, stood_rep, space_of}
 use Rattle.checker.specs.Scope.{Entries}
 use Rattle.checker.specs.Asking.{label_prop, term_of, Few, Judgeable}
@@ -74,23 +70,17 @@ module _ {code : List ℕ} {scope bound : List (Option ℕ)} {x p : ℕ} {hidden
   pub restored : {called back : List (Option ℕ)} → called ≡ bound → back ≡ set called x hidden → back ≡ scope
   restored same e = e ∙ rw (same, b.bound, b.hidden) (put_back scope x (Some p) (omega (arith, s.long)))
 
--- A side by its number: a stop, or where the left side's code ends.
-module _ {code : List ℕ} {p node r : ℕ} {c : Connective} (few : length code ≤ standing) (stood : Stood code p) (s : SideOf code p c node r) where
-  pub side_halves : r < stops → Halves code p r c
-  side_halves h = by_cases (ℕ_discrete (get_or code p 0) (connective_byte (meant c)))
-      (λ e. halves c few stood e (s.found e))
-      (λ e. absurd (omega (arith, s.other e)))
-
-  pub side_other : stops ≤ r → (get_or code p 0 ≡ connective_byte (meant c) → ⊥)
-  side_other h e = omega (arith, (halves c few stood e (s.found e)).right.low)
+-- both sides of what has the connective
+pub side_halves : {code : List ℕ} {p end : ℕ} {c : Connective} → length code ≤ standing → Stood code p → Side code p c end → Halves code p end c
+side_halves {c = c} few stood s = halves c few stood s.byte s.scanned
 
 -- Answers.
-module _ {code : List ℕ} {scope : List (Option ℕ)} {mades : List Made} {t : ProofTerm ℕ} {n r : ℕ} (x : InfersAs code scope mades t n r) where
-  pub known_answer : r < stops → n + nodes t ≤ node_limit → Known code mades r
+module _ {code : List ℕ} {scope : List (Option ℕ)} {mades : List Made} {t : ProofTerm ℕ} {n : ℕ} {r : Result ℕ ℕ} (x : InfersAs code scope mades t n r) where
+  pub known_answer : {p : ℕ} → r ≡ Ok p → n + nodes t ≤ node_limit → Known code mades p
   known_answer h room = record { lo = n; hi = n + nodes t; prop = (derives x h).prop; rep = (derives x h).rep; last = room }
 
-  pub answer_space : length code ≤ standing → length mades ≡ node_limit → n + nodes t ≤ node_limit → r < stops → Space code mades r
-  answer_space few slots room h = space_of few slots (known_answer h room)
+  pub answer_space : length code ≤ standing → length mades ≡ node_limit → n + nodes t ≤ node_limit → (p : ℕ) → r ≡ Ok p → Space code mades p
+  answer_space few slots room p h = space_of few slots (known_answer h room)
 
 pub known_stood : {code : List ℕ} {mades : List Made} {p : ℕ} → Stood code p → Known code mades p
 known_stood {code} {mades} {p} s = record { lo = 0; hi = 0; prop = prop_at name_space code p; rep = stood_rep s; last = omega arith }
@@ -101,21 +91,21 @@ stood_low s = omega (arith, s.low)
 
 -- an answer of the term that record m holds, in whatever way its node and its scope were found
 module _ {records code : List ℕ} {stride : ℕ} {scope : List (Option ℕ)} {mades : List Made} {m n : ℕ} where
-  pub inferred_at : {t : ProofTerm ℕ} {scope' : List (Option ℕ)} {mades' : List Made} {r : ℕ} → term_of code stride records m ≡ t → InfersAs code scope mades' t n r → scope' ≡ scope
+  pub inferred_at : {t : ProofTerm ℕ} {scope' : List (Option ℕ)} {mades' : List Made} {r : Result ℕ ℕ} → term_of code stride records m ≡ t → InfersAs code scope mades' t n r → scope' ≡ scope
       → Kept n (n + nodes (term_of code stride records m)) mades mades' → Inferred records code stride scope mades m n scope' mades' r
   inferred_at e x s k = record { answer = rw e x; same = s; kept = k }
 
-  pub checked_at : {t : ProofTerm ℕ} {p : ℕ} {scope' : List (Option ℕ)} {mades' : List Made} {r : ℕ} → term_of code stride records m ≡ t → ChecksAs code scope t n p r → scope' ≡ scope
+  pub checked_at : {t : ProofTerm ℕ} {p : ℕ} {scope' : List (Option ℕ)} {mades' : List Made} {r : Result (Unit {0}) ℕ} → term_of code stride records m ≡ t → ChecksAs code scope t n p r → scope' ≡ scope
       → Kept n (n + nodes (term_of code stride records m)) mades mades' → Checked records code stride scope mades m n p scope' mades' r
   checked_at e x s k = record { answer = rw e x; same = s; kept = k }
 
-pub infers_under : {code : List ℕ} {scope bound : List (Option ℕ)} {mades : List Made} {t : ProofTerm ℕ} {n k r : ℕ} → bound ≡ scope → k ≡ n → InfersAs code bound mades t k r → InfersAs code scope mades t n r
+pub infers_under : {code : List ℕ} {scope bound : List (Option ℕ)} {mades : List Made} {t : ProofTerm ℕ} {n k : ℕ} {r : Result ℕ ℕ} → bound ≡ scope → k ≡ n → InfersAs code bound mades t k r → InfersAs code scope mades t n r
 infers_under e i x = rw (← e, ← i) x
 
-pub checks_under : {code : List ℕ} {scope bound : List (Option ℕ)} {t : ProofTerm ℕ} {n k p r : ℕ} → bound ≡ scope → k ≡ n → ChecksAs code bound t k p r → ChecksAs code scope t n p r
+pub checks_under : {code : List ℕ} {scope bound : List (Option ℕ)} {t : ProofTerm ℕ} {n k p : ℕ} {r : Result (Unit {0}) ℕ} → bound ≡ scope → k ≡ n → ChecksAs code bound t k p r → ChecksAs code scope t n p r
 checks_under e i x = rw (← e, ← i) x
 
 -- what is expected over the code and the slots that were lent is expected over those that they are
-pub expected_here : {code code' : List ℕ} {mades mades' : List Made} {connective : Connective} {r node res : ℕ} → (code' ≡ code) × (mades' ≡ mades)
+pub expected_here : {code code' : List ℕ} {mades mades' : List Made} {connective : Connective} {r res : Result ℕ ℕ} {node : ℕ} → (code' ≡ code) × (mades' ≡ mades)
     → Expected code' mades' r connective node res → Expected code mades r connective node res
 expected_here e found = rw (e.0, e.1) at found

@@ -1,14 +1,15 @@
 -- What the helpers of the two functions say.
-use Rattle.std.specs.Prelude.{ℕ, ◌+◌, ◌*◌, ◌<◌, ◌≡◌, Bool, true, false, List, get_or, set, Option, None, Some}
+use Rattle.std.specs.Prelude.{ℕ, ◌+◌, ◌*◌, ◌<◌, ◌≡◌, Bool, true, false, List, get_or, set, Option, None, Some, Result, Ok, Err, MatchResult}
 use Rattle.definitions.specs.Name.{Name}
 use Rattle.definitions.specs.Prop.{Prop, impl, connective_byte, rename_prop}
 use Rattle.definitions.specs.Term.{rename_parameter_label}
 use Rattle.definitions.specs.TermText.{nodes}
 use Rattle.definitions.specs.Checker.{ensure, label_is}
 use Rattle.prefix_code.specs.PropAt.{prop_at}
-use Rattle.prefix_code.specs.Scan.{Scanned}
+use Rattle.prefix_code.specs.declared.Connective.TheVariants.{Impl}
 use Rattle.proof_term.specs.Records.{field_at, parameter_label, term_at}
-use Rattle.prop_numbers.specs.Standing.{stops, name_space, Distinct}
+use Rattle.prop_numbers.specs.Standing.{number_limit, name_space, Distinct}
+use Rattle.prop_numbers.specs.Answering.{Side}
 use Rattle.checker.specs.Asking.{label_prop}
 
 -- the node after those of the term of record m, whose own is `node`, whatever its labels stand for
@@ -21,12 +22,10 @@ pub record LabelTested (records code : List ℕ) (stride m p : ℕ) (r : Bool) :
       → label_is n (rename_parameter_label f (parameter_label (label_prop code stride) (field_at records m 3) (field_at records m 4))) (rename_prop f (prop_at name_space code p))
       ≡ ensure n r
 
--- the same for a function's body, if its label is the left side
-pub record BodyTested (records code : List ℕ) (stride m p node r : ℕ) : Type 0 where
-  pub test : Bool
-  pub label : LabelTested records code stride m (p + 1) test
-  pub is : test ≡ true → Scanned name_space code (p + 1) r
-  pub other : test ≡ false → r ≡ stops + node
+-- the right side of an implication, where the label is its left side
+pub record BodyFits (records code : List ℕ) (stride m p end : ℕ) : Type 0 where
+  pub side : Side code p Impl end
+  pub label : LabelTested records code stride m (p + 1) true
 
 -- it is no implication, or has another left side: then the node
 pub record BodyDiffers (records code : List ℕ) (stride m p node n : ℕ) : Type 0 where
@@ -42,17 +41,17 @@ pub record Bound (scope : List (Option ℕ)) (name p : ℕ) (after : List (Optio
   pub bound : after ≡ set scope name (Some p)
   pub hidden : r ≡ get_or scope name None
 
--- what an entry of the scope stands for, or a stop at the node where there is none
-pub record Found (bound : Option ℕ) (node r : ℕ) : Type 0 where
-  pub none : bound ≡ None → r ≡ stops + node
-  pub some : (p : ℕ) → bound ≡ Some p → r ≡ p
+-- what an entry of the scope stands for, or the node where there is none
+pub record Found (bound : Option ℕ) (node : ℕ) (r : Result ℕ ℕ) : Type 0 where
+  pub none : bound ≡ None → r ≡ Err node
+  pub some : (p : ℕ) → bound ≡ Some p → r ≡ Ok p
 
--- where a label of record m stands, or a stop at the node where it is a datatype
-pub record Ascribed (records : List ℕ) (stride m node r : ℕ) : Type 0 where
-  pub datatype : field_at records m 3 ≡ 2 → r ≡ stops + node
-  pub offset : (field_at records m 3 ≡ 2 → ⊥) → (r ≡ stride * field_at records m 4) × (r < stops)
+-- where a label of record m stands, or the node where it is a datatype
+pub record Ascribed (records : List ℕ) (stride m node : ℕ) (r : Result ℕ ℕ) : Type 0 where
+  pub datatype : field_at records m 3 ≡ 2 → r ≡ Err node
+  pub offset : (field_at records m 3 ≡ 2 → ⊥) → (r ≡ Ok (stride * field_at records m 4)) × (stride * field_at records m 4 < number_limit)
 
 -- the same where there may be none
-pub record Annotated (records : List ℕ) (stride m node r : ℕ) : Type 0 where
-  pub none : field_at records m 3 ≡ 0 → r ≡ stops + node
+pub record Annotated (records : List ℕ) (stride m node : ℕ) (r : Result ℕ ℕ) : Type 0 where
+  pub none : field_at records m 3 ≡ 0 → r ≡ Err node
   pub some : (field_at records m 3 ≡ 0 → ⊥) → Ascribed records stride m node r

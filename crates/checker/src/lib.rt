@@ -6,14 +6,14 @@
 ghost use Rattle.std.specs.Prelude.{◌≡◌, ℕ, ◌+◌, ◌*◌, ◌≤◌, ◌<◌, length, get_or, set, None};
 ghost use Rattle.proof_term.specs.Records.{record_size, field_at};
 ghost use Rattle.proof_term.specs.declared.nodes.Kind.TheVariants.{Function, Pair, Application, Case};
-ghost use Rattle.prop_numbers.specs.Standing.{standing, node_limit, name_space, Stood};
+ghost use Rattle.prop_numbers.specs.Standing.{standing, name_space, Stood};
 ghost use Rattle.checker.specs.Asking.{Few, NameHeld, LabelHeld, OfKind, JudgeableTerm};
 ghost use Rattle.checker.specs.Judging.{InferredTerm, CheckedTerm};
 ghost use Rattle.checker.specs.Helping.{After, Found, Bound, Ascribed, Annotated, BodySide};
 
 use prefix_code::{Connective, known_end};
 use proof_term::{Kind, Label, NODE_LIMIT, field, kind_at, label_at, parameter_at};
-use prop_numbers::{Made, NAMES, Propositions, STOPS, make, same_code, side_of};
+use prop_numbers::{Made, NAMES, Propositions, make, same_code, side_of};
 use term_sizes::SIZE;
 
 // The numbers of a record that the rules read: its parts, or an identifier's name; a function's name; the names of a case's two branches.
@@ -46,24 +46,25 @@ pub struct State {
     pub made: [Made; NODE_LIMIT],
 }
 
-// What a name stands for, or a stop at the node.
-fn entry(scope: &[Option<u32>; NAMES], name: usize, node: usize) -> usize
-    requires { (name < name_space) × (node < node_limit) }
+// What a name stands for, or the node.
+fn entry(scope: &[Option<u32>; NAMES], name: usize, node: usize) -> Result<usize, usize>
+    requires { name < name_space }
     ensures { Found (get_or scope.now name None) node result }
 {
     match scope[name] {
-        None => STOPS + node,
-        Some(p) => p as usize,
+        None => Err(node),
+        Some(p) => Ok(p as usize),
     }
 }
 
 // Checking and inferring have an arm for each rule. An arm that binds a name or asks of two parts is a function of its own, which the
-// compiler puts into its one caller, so that each of the 512 levels takes one frame. An answer is a number, as prop_numbers::STOPS says.
-// A record is not taken apart as a Node: its numbers would lie in the frame over the calls, 32 bytes more a level (120 for 88 in `check`,
-// 136 for 104 in `infer`, as rustc lays the same text out), and the arm of a case would have ten parameters.
-// Binding a name around one call stands six times: by a method over a closure `check` takes 136 bytes a level and `infer` 120, and each use
-// puts that method and its closure into the cycle of calls, with a measure and a contract of their own. The head of a case stands in two
-// arms: a function for it has two callers and so a frame of its own, 32 bytes a level more down a head in `check` and 16 in `infer`.
+// compiler puts into its one caller, so that each of the 512 levels takes one frame. An answer is nothing or a proposition's number, or else
+// the node that stops the rules (docs/DECISIONS.md, 135).
+// A record is not taken apart as a Node: the arm of a case would have ten parameters, since its contract speaks of the record's number
+// beside the parts and the names.
+// Binding a name around one call stands six times: a method over a closure would stand in the cycle of calls with each closure, and each
+// use would ask a measure and a contract of both. The head of a case stands in two arms: a function for its two calls would be one more of
+// the cycle, and its contract would say again what `infer` and `expect` say.
 // What every arm asks, JudgeableTerm, speaks of the state too, which each call changes, so that no ghost field beside m and node holds it.
 impl<'a> Terms<'a> {
     // The node after those of the term of record m, whose own is `node`.
@@ -87,26 +88,23 @@ impl<'a> Terms<'a> {
     }
 
     // The right side of the implication at p, if it is one and has the label of the function of record m, if that has one, for its left
-    // side; else a stop at the node.
-    fn body_side(&self, m: usize, p: usize, node: usize) -> usize
+    // side; else the node.
+    fn body_side(&self, m: usize, p: usize, node: usize) -> Result<usize, usize>
         requires m_in_bounds { (record_size * (m + 1) ≤ length self.now.records.now)
             × LabelHeld self.now.records.now self.now.code.now self.now.stride m }
         requires m_value { OfKind self.now.records.now m Function × Stood self.now.code.now p
-            × (length self.now.code.now ≤ standing) × (node < node_limit) }
+            × (length self.now.code.now ≤ standing) }
         ensures { BodySide self.now.records.now self.now.code.now self.now.stride m p node result }
     {
-        let side = side_of(self.code, p, Connective::Impl, node);
-        if STOPS <= side {
-            return side;
-        }
+        let side = side_of(self.code, p, Connective::Impl, node)?;
         match parameter_at(self.records, m) {
-            None => side,
-            Some(Label::Datatype(_)) => STOPS + node,
+            None => Ok(side),
+            Some(Label::Datatype(_)) => Err(node),
             Some(Label::Proposition(number)) => {
                 if same_code(self.code, self.stride * usize::from(number), p + 1) {
-                    return side;
+                    return Ok(side);
                 }
-                STOPS + node
+                Err(node)
             }
         }
     }
@@ -131,33 +129,33 @@ impl<'a> Terms<'a> {
         scope[name] = hidden;
     }
 
-    // Where the label of record m stands, an ascription's or a function's, if it is a proposition; else a stop at the node.
+    // Where the label of record m stands, an ascription's or a function's, if it is a proposition; else the node.
     #[tactic(auto, using(proof_term::proofs::Views::datatype_read, proof_term::proofs::Views::proposition_read, crate::proofs::Labels::short_stride))]
-    fn ascribed(&self, m: usize, node: usize) -> usize
-        requires { (record_size * (m + 1) ≤ length self.now.records.now) × (self.now.stride ≤ 2) × (node < node_limit) }
+    fn ascribed(&self, m: usize, node: usize) -> Result<usize, usize>
+        requires { (record_size * (m + 1) ≤ length self.now.records.now) × (self.now.stride ≤ 2) }
         ensures { Ascribed self.now.records.now self.now.stride m node result }
     {
         match label_at(self.records, m) {
-            Label::Datatype(_) => STOPS + node,
-            Label::Proposition(number) => self.stride * usize::from(number),
+            Label::Datatype(_) => Err(node),
+            Label::Proposition(number) => Ok(self.stride * usize::from(number)),
         }
     }
 
     // The same for a function's label, which may be absent.
     #[tactic(auto, using(proof_term::proofs::Views::no_parameter, proof_term::proofs::Views::parameter_read))]
-    fn annotated(&self, m: usize, node: usize) -> usize
-        requires { (record_size * (m + 1) ≤ length self.now.records.now) × (self.now.stride ≤ 2) × (node < node_limit) }
+    fn annotated(&self, m: usize, node: usize) -> Result<usize, usize>
+        requires { (record_size * (m + 1) ≤ length self.now.records.now) × (self.now.stride ≤ 2) }
         ensures { Annotated self.now.records.now self.now.stride m node result }
     {
         match parameter_at(self.records, m) {
-            None => STOPS + node,
+            None => Err(node),
             Some(_) => self.ascribed(m, node),
         }
     }
 
     // Does the term of record m, a node of that number, check against the proposition at p?
     #[cycle(check_infer)]
-    pub fn check(&self, state: &mut State, m: usize, node: usize, p: usize) -> usize
+    pub fn check(&self, state: &mut State, m: usize, node: usize, p: usize) -> Result<(), usize>
         requires { JudgeableTerm self.now state.old m node × Stood self.now.code.now p }
         ensures { CheckedTerm self.now m node p state.old state.new result }
     {
@@ -167,23 +165,20 @@ impl<'a> Terms<'a> {
             Kind::Function => self.check_function(state, m, node, p),
             Kind::Pair => self.check_pair(state, m, node, p),
             Kind::OrLeft => {
-                let side = side_of(self.code, p, Connective::Or, node);
-                if STOPS <= side {
-                    return side;
-                }
+                side_of(self.code, p, Connective::Or, node)?;
                 self.check(state, first, node + 1, p + 1)
             }
             Kind::OrRight => {
-                let side = side_of(self.code, p, Connective::Or, node);
-                if STOPS <= side {
-                    return side;
-                }
+                let side = side_of(self.code, p, Connective::Or, node)?;
                 self.check(state, first, node + 1, side)
             }
             Kind::Case => self.check_case(state, m, node, p),
-            Kind::Abort => self.check(state, first, node + 1, self.code.len() - 1),
-            Kind::Sorry => 0,
-            Kind::LetIn => STOPS + node,
+            Kind::Abort => {
+                let bottom = self.code.len() - 1;
+                self.check(state, first, node + 1, bottom)
+            }
+            Kind::Sorry => Ok(()),
+            Kind::LetIn => Err(node),
             Kind::Ident
             | Kind::ProjectFst
             | Kind::ProjectSnd
@@ -191,23 +186,26 @@ impl<'a> Terms<'a> {
             | Kind::TypeAscription
             | Kind::Unit => {
                 let r = self.infer(state, m, node);
-                self.propositions(&state.made).agree(r, p, node, 0)
+                self.propositions(&state.made).agree(r, p, node)
             }
         }
     }
 
     // A function: its body against the right side of an implication, under its name for the left side.
     #[cycle(check_infer)]
-    fn check_function(&self, state: &mut State, m: usize, node: usize, p: usize) -> usize
+    fn check_function(
+        &self,
+        state: &mut State,
+        m: usize,
+        node: usize,
+        p: usize,
+    ) -> Result<(), usize>
         requires ready { JudgeableTerm self.now state.old m node × Stood self.now.code.now p }
         requires kind { OfKind self.now.records.now m Function }
         ensures { CheckedTerm self.now m node p state.old state.new result }
     {
         let first = field(self.records, m, FIRST);
-        let side = self.body_side(m, p, node);
-        if STOPS <= side {
-            return side;
-        }
+        let side = self.body_side(m, p, node)?;
         let hidden = self.bind(&mut state.scope, m, NAME, p + 1);
         let r = self.check(state, first, node + 1, side);
         self.unbind(&mut state.scope, m, NAME, hidden);
@@ -216,20 +214,14 @@ impl<'a> Terms<'a> {
 
     // A pair: each part against a side of a conjunction.
     #[cycle(check_infer)]
-    fn check_pair(&self, state: &mut State, m: usize, node: usize, p: usize) -> usize
+    fn check_pair(&self, state: &mut State, m: usize, node: usize, p: usize) -> Result<(), usize>
         requires ready { JudgeableTerm self.now state.old m node × Stood self.now.code.now p }
         requires kind { OfKind self.now.records.now m Pair }
         ensures { CheckedTerm self.now m node p state.old state.new result }
     {
         let first = field(self.records, m, FIRST);
-        let side = side_of(self.code, p, Connective::And, node);
-        if STOPS <= side {
-            return side;
-        }
-        let r = self.check(state, first, node + 1, p + 1);
-        if r != 0 {
-            return r;
-        }
+        let side = side_of(self.code, p, Connective::And, node)?;
+        self.check(state, first, node + 1, p + 1)?;
         let second = field(self.records, m, SECOND);
         let next = self.after(first, node + 1);
         self.check(state, second, next, side)
@@ -237,7 +229,7 @@ impl<'a> Terms<'a> {
 
     // A case: each branch against p, under its name for a side of the disjunction that the head infers.
     #[cycle(check_infer)]
-    fn check_case(&self, state: &mut State, m: usize, node: usize, p: usize) -> usize
+    fn check_case(&self, state: &mut State, m: usize, node: usize, p: usize) -> Result<(), usize>
         requires ready { JudgeableTerm self.now state.old m node × Stood self.now.code.now p }
         requires kind { OfKind self.now.records.now m Case }
         ensures { CheckedTerm self.now m node p state.old state.new result }
@@ -246,18 +238,13 @@ impl<'a> Terms<'a> {
         let inferred = self.infer(state, first, node + 1);
         let h = self
             .propositions(&state.made)
-            .expect(inferred, Connective::Or, node);
-        if STOPS <= h {
-            return h;
-        }
+            .expect(inferred, Connective::Or, node)?;
         let second = field(self.records, m, SECOND);
         let next = self.after(first, node + 1);
         let hidden = self.bind(&mut state.scope, m, LEFT_NAME, h + 1);
         let r = self.check(state, second, next, p);
         self.unbind(&mut state.scope, m, LEFT_NAME, hidden);
-        if r != 0 {
-            return r;
-        }
+        r?;
         let third = field(self.records, m, THIRD);
         let last = self.after(second, next);
         let side = known_end(self.code, h + 1, NAMES);
@@ -269,7 +256,7 @@ impl<'a> Terms<'a> {
 
     // What does the term of record m, a node of that number, infer?
     #[cycle(check_infer)]
-    pub fn infer(&self, state: &mut State, m: usize, node: usize) -> usize
+    pub fn infer(&self, state: &mut State, m: usize, node: usize) -> Result<usize, usize>
         requires { JudgeableTerm self.now state.old m node }
         ensures { InferredTerm self.now m node state.old state.new result }
     {
@@ -287,27 +274,21 @@ impl<'a> Terms<'a> {
             }
             Kind::Application => self.infer_application(state, m, node),
             Kind::TypeAscription => {
-                let label = self.ascribed(m, node);
-                if STOPS <= label {
-                    return label;
-                }
-                let r = self.check(state, first, node + 1, label);
-                if r != 0 {
-                    return r;
-                }
-                label
+                let label = self.ascribed(m, node)?;
+                self.check(state, first, node + 1, label)?;
+                Ok(label)
             }
             Kind::Function => self.infer_function(state, m, node),
             Kind::Pair => self.infer_pair(state, m, node),
             Kind::Case => self.infer_case(state, m, node),
-            Kind::Unit => self.code.len() - 2,
-            Kind::LetIn | Kind::OrLeft | Kind::OrRight | Kind::Abort | Kind::Sorry => STOPS + node,
+            Kind::Unit => Ok(self.code.len() - 2),
+            Kind::LetIn | Kind::OrLeft | Kind::OrRight | Kind::Abort | Kind::Sorry => Err(node),
         }
     }
 
     // An application: the right side of the implication that its function infers, if the argument checks against the left side.
     #[cycle(check_infer)]
-    fn infer_application(&self, state: &mut State, m: usize, node: usize) -> usize
+    fn infer_application(&self, state: &mut State, m: usize, node: usize) -> Result<usize, usize>
         requires ready { JudgeableTerm self.now state.old m node }
         requires kind { OfKind self.now.records.now m Application }
         ensures { InferredTerm self.now m node state.old state.new result }
@@ -315,33 +296,24 @@ impl<'a> Terms<'a> {
         let first = field(self.records, m, FIRST);
         let inferred = self.infer(state, first, node + 1);
         let propositions = self.propositions(&state.made);
-        let p = propositions.expect(inferred, Connective::Impl, node);
-        if STOPS <= p {
-            return p;
-        }
+        let p = propositions.expect(inferred, Connective::Impl, node)?;
         let second = field(self.records, m, SECOND);
         let next = self.after(first, node + 1);
         let argument = propositions.left(p);
         let side = propositions.right(p);
-        let r = self.check(state, second, next, argument);
-        if r != 0 {
-            return r;
-        }
-        side
+        self.check(state, second, next, argument)?;
+        Ok(side)
     }
 
     // A function with a proposition for its label: the implication from that to what its body infers.
     #[cycle(check_infer)]
-    fn infer_function(&self, state: &mut State, m: usize, node: usize) -> usize
+    fn infer_function(&self, state: &mut State, m: usize, node: usize) -> Result<usize, usize>
         requires ready { JudgeableTerm self.now state.old m node }
         requires kind { OfKind self.now.records.now m Function }
         ensures { InferredTerm self.now m node state.old state.new result }
     {
         let first = field(self.records, m, FIRST);
-        let label = self.annotated(m, node);
-        if STOPS <= label {
-            return label;
-        }
+        let label = self.annotated(m, node)?;
         let hidden = self.bind(&mut state.scope, m, NAME, label);
         let r = self.infer(state, first, node + 1);
         self.unbind(&mut state.scope, m, NAME, hidden);
@@ -350,16 +322,13 @@ impl<'a> Terms<'a> {
 
     // A pair: the conjunction of what its parts infer.
     #[cycle(check_infer)]
-    fn infer_pair(&self, state: &mut State, m: usize, node: usize) -> usize
+    fn infer_pair(&self, state: &mut State, m: usize, node: usize) -> Result<usize, usize>
         requires ready { JudgeableTerm self.now state.old m node }
         requires kind { OfKind self.now.records.now m Pair }
         ensures { InferredTerm self.now m node state.old state.new result }
     {
         let first = field(self.records, m, FIRST);
-        let p = self.infer(state, first, node + 1);
-        if STOPS <= p {
-            return p;
-        }
+        let p = self.infer(state, first, node + 1)?;
         let second = field(self.records, m, SECOND);
         let next = self.after(first, node + 1);
         let q = self.infer(state, second, next);
@@ -368,7 +337,7 @@ impl<'a> Terms<'a> {
 
     // A case: what both branches infer, each under its name for a side of the disjunction that the head infers.
     #[cycle(check_infer)]
-    fn infer_case(&self, state: &mut State, m: usize, node: usize) -> usize
+    fn infer_case(&self, state: &mut State, m: usize, node: usize) -> Result<usize, usize>
         requires ready { JudgeableTerm self.now state.old m node }
         requires kind { OfKind self.now.records.now m Case }
         ensures { InferredTerm self.now m node state.old state.new result }
@@ -377,24 +346,20 @@ impl<'a> Terms<'a> {
         let inferred = self.infer(state, first, node + 1);
         let h = self
             .propositions(&state.made)
-            .expect(inferred, Connective::Or, node);
-        if STOPS <= h {
-            return h;
-        }
+            .expect(inferred, Connective::Or, node)?;
         let second = field(self.records, m, SECOND);
         let next = self.after(first, node + 1);
         let hidden = self.bind(&mut state.scope, m, LEFT_NAME, h + 1);
         let q = self.infer(state, second, next);
         self.unbind(&mut state.scope, m, LEFT_NAME, hidden);
-        if STOPS <= q {
-            return q;
-        }
+        let q = q?;
         let third = field(self.records, m, THIRD);
         let last = self.after(second, next);
         let side = known_end(self.code, h + 1, NAMES);
         let hidden = self.bind(&mut state.scope, m, RIGHT_NAME, side);
         let r = self.infer(state, third, last);
         self.unbind(&mut state.scope, m, RIGHT_NAME, hidden);
-        self.propositions(&state.made).agree(r, q, node, q)
+        self.propositions(&state.made).agree(r, q, node)?;
+        Ok(q)
     }
 }

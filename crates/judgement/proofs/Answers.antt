@@ -1,9 +1,8 @@
 -- The answer by its refusals: 31, then 22, then what the rules say.
-use Prim.Native.Nat.{ℕ, ◌-◌, ◌≤◌, ◌<◌}
-use mathlib.Core.Path.{◌≡◌, refl, sym, ap, ◌∙◌}
+use Prim.Native.Nat.{ℕ, ◌≤◌, ◌<◌}
+use mathlib.Core.Path.{◌≡◌, sym, ap, ◌∙◌}
 use mathlib.Core.Bool.{Bool, true, false, ◌||◌}
 use mathlib.Core.List.{List, []}
-use native.Mathlib.Omega.{arith}
 use lib.Dec.{leb}
 use borrow.Author.Tests.{le-leb, lt-leb, leb-false}
 use Rattle.definitions.specs.declared.Refusal.{Refusal}
@@ -19,7 +18,6 @@ use Rattle.checker_laws.proofs.SoundJudgement.{sound_judgement, sound_yes}
 use Rattle.prefix_code.specs.PropAt.{prop_at}
 use Rattle.proof_term.specs.Records.{term_at}
 use Rattle.checkable.specs.Terms.{LabelsPresent}
-use Rattle.prop_numbers.specs.Standing.{stops}
 use Rattle.checker.specs.Judging.{Checks, yes, node}
 use Rattle.sheet.specs.declared.header.Sheet.{Sheet}
 use Rattle.sheet.specs.Header.{header_of}
@@ -29,7 +27,8 @@ use Rattle.hypotheses.specs.Pairs.{out_of}
 use Rattle.hypotheses.proofs.Walking.{out_is}
 use Rattle.sheet_term.specs.Held.{HeldTerm}
 use Rattle.sheet_term.proofs.Held.{label_present}
-use Rattle.std.specs.Prelude.{Option, None, Some, Result, Ok, Err}
+use Rattle.std.specs.Prelude.{Option, Result, Ok, Err}
+use Rattle.std.specs.Result.{result_err}
 use Rattle.judgement.specs.Asked.{Known, held_term, may_check, ruled}
 use Rattle.judgement.specs.Answered.{judgement_of, Judges}
 use Rattle.judgement.proofs.Asking.{held_named}
@@ -91,20 +90,11 @@ module _ {s hs : List ℕ} {k : ℕ} (known : Known s hs k) {terms : List ℕ} {
   unfolding judgement refuse_if ◌>>=◌ ruled may_check
   answered e same = rw (lt-leb (propositions s) k known.proposition, known.hypotheses, ← is, e) same
 
--- a number as an answer
-pub says-yes : {r : ℕ} → r ≡ 0 → (j : Judged (Unit {0})) → Checks j r → Ok None ≡ judgement_of (accepted j)
+-- what the checker answers, as the node at which it stops
+pub stops_at : {r : Result (Unit {0}) ℕ} {x : Option ℕ} (j : Judged (Unit {0})) → Checks j r → x ≡ result_err r → Ok x ≡ judgement_of (accepted j)
 unfolding judgement_of
-says-yes e (derived u) (yes is) = refl
-says-yes e (stopped n) (node _ is) = absurd (omega arith)
-
-pub past_all : {r : ℕ} {j : Judged (Unit {0})} → (r ≡ 0 → ⊥) → Checks j r → stops ≤ r
-past_all e (yes is) = absurd (e is)
-past_all e (node n is) = omega arith
-
-pub says-no : {r : ℕ} → (r ≡ 0 → ⊥) → (j : Judged (Unit {0})) → Checks j r → Ok (Some (r - stops)) ≡ judgement_of (accepted j)
-unfolding judgement_of
-says-no e (derived u) (yes is) = absurd (e is)
-says-no {r} e (stopped n) (node _ is) = let at : r - stops ≡ n = omega arith in ap (λ n. Ok (Some n)) at
+stops_at (derived u) (yes is) e = ap (λ x. Ok x) (e ∙ ap result_err is)
+stops_at (stopped n) (node _ is) e = ap (λ x. Ok x) (e ∙ ap result_err is)
 
 -- Of every sequence of bytes:
 module _ (s hs : List ℕ) (k : ℕ) where

@@ -3,7 +3,7 @@ use Prim.Native.Nat.{ℕ, ◌*◌, ◌≤◌, ◌<◌}
 use mathlib.Core.Path.{◌≡◌, sym, ap, ◌∙◌}
 use mathlib.Core.Logic.{by_cases}
 use mathlib.Core.Bool.{false}
-use Rattle.std.specs.Prelude.{Option, None}
+use Rattle.std.specs.Prelude.{Option, None, Result}
 use Rattle.std.proofs.lemmas.Option.{none-some}
 use mathlib.Core.List.{List, []}
 use native.Mathlib.Omega.{arith}
@@ -190,7 +190,7 @@ module _ {s : List ℕ} (a : Accepted s) {numbers : List ℕ} (l : LowestNumbers
 
     -- what the checker answers is what the rules say of it
     pub rules_say : {k : ℕ} → k < propositions s → {at : ℕ} → at ≡ pair_offset (proposition_pairs s) k
-        → {hs : List ℕ} {scope : List (Option ℕ)} {made : List Made} {scope' : List (Option ℕ)} {made' : List Made} {x : ℕ} → InScope s hs code scope l.naming
+        → {hs : List ℕ} {scope : List (Option ℕ)} {made : List Made} {scope' : List (Option ℕ)} {made' : List Made} {x : Result (Unit {0}) ℕ} → InScope s hs code scope l.naming
         → Checked sized code 1 scope made n 0 at scope' made' x → Checks (ruled s terms n hs k) x
     unfolding ruled Decides
     rules_say {k} below is {hs} i checked =

@@ -6,7 +6,6 @@ use Rattle.definitions.specs.Checker.{Judged, derived, stopped}
 use Rattle.definitions.specs.Sound.{Sound}
 use Rattle.definitions.specs.CheckAnswers.{named_prop, sheet_judgement}
 use Rattle.checker_laws.specs.Judgements.{root_number}
-use Rattle.checker.specs.Judging.{Checks}
 use Rattle.definitions.specs.declared.Refusal.{Refusal}
 
 -- the node at which the rules stop, or none where they derive the judgement
@@ -14,11 +13,6 @@ unfoldable pub judgement_of : Outcome (Judged (Unit {0})) → Result (Option ℕ
 judgement_of (accepted (derived u)) = Ok None
 judgement_of (accepted (stopped n)) = Ok (Some n)
 judgement_of (refused r) = Err r
-
--- a number that the checker may answer
-pub record Decided (r : ℕ) : Type 0 where
-  pub judged : Judged (Unit {0})
-  pub shown : Checks judged r
 
 -- What is answered: document 02, ticket 5. On a sound sheet, from no hypotheses, it is yes for each number of the root's proposition,
 -- and so for the one that the root has.

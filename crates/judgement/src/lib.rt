@@ -5,13 +5,11 @@
 ghost use Rattle.std.specs.Prelude.{◌≡◌, ◌||◌, ◌≤◌, length, leb, Ok};
 ghost use Rattle.definitions.specs.Outcome.{accepted};
 ghost use Rattle.definitions.specs.Sheet.{name_limit, names, propositions, proposition_pairs, code_bytes};
-ghost use Rattle.definitions.specs.Checker.{Judged};
 ghost use Rattle.definitions.specs.CheckAnswers.{hypothesis_out, judgement};
 ghost use Rattle.merged_names.specs.Numbered.{Numbered};
 ghost use Rattle.standing_code.specs.Over.{CodeStands};
-ghost use Rattle.checker.specs.Judging.{Checks};
 ghost use Rattle.sheet_term.specs.Held.{HeldTerm};
-ghost use Rattle.judgement.specs.Answered.{judgement_of, Decided, Judges};
+ghost use Rattle.judgement.specs.Answered.{judgement_of, Judges};
 ghost use Rattle.judgement.specs.Asked.{Known, held_term, may_check, ruled, LowestNumbers};
 
 use checkable::is_checkable;
@@ -23,7 +21,7 @@ use merged_names::{IndexedSheets, fill_numbers};
 use name_index::SLOT_COUNT;
 use number::pair_offset;
 use proof_term::NODE_LIMIT;
-use prop_numbers::{Made, NAMES, STOPS};
+use prop_numbers::{Made, NAMES};
 use sheet::{AdmittedSheet, Sheet};
 use sheet_term::{TERM_NUMBERS, sheet_term};
 use standing_code::{CODE_SIZE, put_code};
@@ -91,17 +89,6 @@ fn stand(sheet: &AdmittedSheet, numbers: &[u16], code: &mut [u8; CODE_SIZE])
     );
 }
 
-// The node at which the rules stop, if they do, by the number that the checker gives: prop_numbers::STOPS says why it gives one.
-fn stopping_node(r: usize) -> Option<usize>
-    requires { Decided r }
-    ensures { (j : Judged (Unit {0})) → Checks j r → Ok result ≡ judgement_of (accepted j) }
-{
-    if r == 0 {
-        return None;
-    }
-    Some(r - STOPS)
-}
-
 // What the rules say: the node at which they stop, or none where they derive the judgement.
 fn decide(
     sheet: &AdmittedSheet,
@@ -134,8 +121,7 @@ fn decide(
     };
     let at = pair_offset(pairs, k);
     // The root is node 0.
-    let r = judged.check(&mut state, n, 0, at);
-    stopping_node(r)
+    judged.check(&mut state, n, 0, at).err()
 }
 
 // 31, 22 and the answer, of the term that is held.

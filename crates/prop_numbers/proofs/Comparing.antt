@@ -17,7 +17,7 @@ use Rattle.prefix_code.specs.PropAt.{prop_at}
 use Rattle.prefix_code.specs.Shape.{meant}
 use Rattle.prefix_code.specs.declared.Connective.{Connective}
 use Rattle.prop_numbers.specs.declared.Made.{Made}
-use Rattle.prop_numbers.specs.Standing.{standing, node_limit, stops, name_space, Rep, stands, made, Known, Distinct, connective_of, left_of, RightOf}
+use Rattle.prop_numbers.specs.Standing.{standing, node_limit, number_limit, name_space, Rep, stands, made, Known, Distinct, connective_of, left_of, RightOf}
 use Rattle.prop_numbers.specs.Answering.{Alike}
 use Rattle.prop_numbers.proofs.Equality.{rename_injective}
 use Rattle.prop_numbers.proofs.Fronts.{byte_of, connective_made}
@@ -27,13 +27,13 @@ use Rattle.prop_numbers.proofs.Halves.{rep_is, left_made, right_made, left_stand
 
 -- what stands weighs less than what is made, and what comes later less than what comes before
 unfoldable pub weight : ℕ → ℕ
-weight p = cond (ltb p standing) (standing - p) (standing + stops - p)
+weight p = cond (ltb p standing) (standing - p) (standing + number_limit - p)
 
 weight_stands : (p : ℕ) → p < standing → weight p ≡ standing - p
 unfolding weight
 weight_stands p l = rw (lt-ltb p standing l)
 
-weight_made : (k : ℕ) → weight (standing + k) ≡ standing + stops - (standing + k)
+weight_made : (k : ℕ) → weight (standing + k) ≡ standing + number_limit - (standing + k)
 unfolding weight
 weight_made k = rw (le-ltb (standing + k) standing (omega arith))
 

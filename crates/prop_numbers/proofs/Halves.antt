@@ -4,10 +4,9 @@ use mathlib.Core.Path.{◌≡◌, refl, sym, ap, ◌∙◌}
 use mathlib.Core.Logic.{by_cases}
 use mathlib.Core.List.{List}
 use native.Mathlib.Omega.{arith}
-use native.Mathlib.Decide.{dec_le}
 use lib.ListN.{length, get_or}
 use borrow.Author.Tests.{lt-ltb, le-ltb}
-use Rattle.std.specs.Prelude.{Some}
+use Rattle.std.specs.Prelude.{Some, Result, Ok, Err}
 use Rattle.std.proofs.lemmas.Option.{same_Some}
 use Rattle.definitions.specs.Prop.{Prop, Binary, connective_byte}
 use Rattle.definitions.specs.Code.{encode}
@@ -18,7 +17,7 @@ use Rattle.prefix_code.specs.declared.Connective.TheVariants.{Or, Impl}
 use Rattle.prefix_code.specs.Scan.{Scanned}
 use Rattle.prefix_code.proofs.Reading.{prop_at_lem, inside}
 use Rattle.prop_numbers.specs.declared.Made.{Made}
-use Rattle.prop_numbers.specs.Standing.{slot, standing, node_limit, stops, name_space, Stood, Rep, stands, made, Known, Space, connective_of, left_of, right_of, Shaped}
+use Rattle.prop_numbers.specs.Standing.{slot, standing, node_limit, number_limit, name_space, Stood, Rep, stands, made, Known, Space, connective_of, left_of, right_of, Shaped}
 use Rattle.prop_numbers.specs.Answering.{Expected}
 use Rattle.prop_numbers.proofs.Fronts.{connective_made, byte_of, dec_connective}
 use Rattle.prop_numbers.proofs.Opening.{left_present, standing_sides, Sides, opened}
@@ -31,7 +30,7 @@ scanned_of {code} {i} there = record {
   inside = (inside there).end;
 }
 
-pub rep_low : {code : List ℕ} {mades : List Made} {lo hi p : ℕ} {a : Prop ℕ} → Rep code mades lo hi p a → hi ≤ node_limit → p < stops
+pub rep_low : {code : List ℕ} {mades : List Made} {lo hi p : ℕ} {a : Prop ℕ} → Rep code mades lo hi p a → hi ≤ node_limit → p < number_limit
 rep_low (stands low there) h = omega arith
 rep_low (made k c l u e shape left right) h = omega arith
 
@@ -116,9 +115,15 @@ space_of few slots k = record {
 }
 
 -- an answer that is as expected is the answer itself
-pub expected_space : {code : List ℕ} {mades : List Made} {r : ℕ} {c : Connective} {node p : ℕ} → (r < stops → Space code mades r) → Expected code mades r c node p → p < stops → Space code mades p
-expected_space {code} {mades} {r} {c} space e h = by_cases (dec_le stops r)
-    (λ l. absurd (omega (arith, e.stop l)))
-    (λ l. by_cases (dec_connective (connective_of code mades r) c)
-    (λ same. rw (e.found (omega arith) same) (space (omega arith)))
-    (λ other. absurd (omega (arith, e.other (omega arith) other))))
+pub expected_space : {code : List ℕ} {made : List Made} {answer : Result ℕ ℕ} {c : Connective} {node p : ℕ} → ((r : ℕ) → answer ≡ Ok r → Space code made r)
+    → Expected code made answer c node (Ok p) → Space code made p
+expected_space {code} {made} {answer} {c} {node} {p} space e = go answer refl
+  where
+    go : (a : Result ℕ ℕ) → answer ≡ a → Space code made p
+    go (Err n) is = absurd (none (e.stop n is))
+      where
+        none : {n : ℕ} → Ok p ≡ Err n → ⊥
+        none e = cc
+    go (Ok r) is = by_cases (dec_connective (connective_of code made r) c)
+        (λ same. let one : p ≡ r = cc (e.found r is same) in rw one (space r is))
+        (λ other. let z = e.other r is other in cc)

@@ -17,9 +17,9 @@ standing = 8192 + 131072 + 2
 abbrev pub node_limit : ℕ
 node_limit = 2048
 
--- past every proposition's number
-abbrev pub stops : ℕ
-stops = standing + node_limit
+-- every proposition's number is below this
+abbrev pub number_limit : ℕ
+number_limit = standing + node_limit
 
 -- name numbers are below this
 abbrev pub name_space : ℕ
@@ -60,7 +60,7 @@ pub record Known (code : List ℕ) (made : List Made) (p : ℕ) : Type 0 where
 
 -- a number is a proposition's, as far as it can be looked up
 pub record Space (code : List ℕ) (made : List Made) (p : ℕ) : Type 0 where
-  pub low : p < stops
+  pub low : p < number_limit
   pub inside : p < standing → p < length code
   pub few : length code ≤ standing
   pub slots : length made ≡ node_limit

@@ -2,12 +2,12 @@
 // that are equal where their bytes are, so two propositions that stand are equal where their code bytes are.
 #![tactic(auto)]
 
-ghost use Rattle.std.specs.Prelude.{◌≡◌, ℕ, ◌≤◌, ◌<◌, length};
+ghost use Rattle.std.specs.Prelude.{◌≡◌, ℕ, ◌≤◌, ◌<◌, length, Ok};
 ghost use Rattle.definitions.specs.Name.{Name};
 ghost use Rattle.definitions.specs.Prop.{rename_prop};
 ghost use Rattle.definitions.specs.Equal.{eq_prop};
 ghost use Rattle.prefix_code.specs.PropAt.{prop_at, Present};
-ghost use Rattle.prop_numbers.specs.Standing.{standing, node_limit, stops, name_space, Space, connective_of, left_of, RightOf};
+ghost use Rattle.prop_numbers.specs.Standing.{standing, node_limit, number_limit, name_space, Space, connective_of, left_of, RightOf};
 ghost use Rattle.prop_numbers.specs.Standing.{Known, Stood, Distinct};
 ghost use Rattle.prop_numbers.specs.Answering.{Alike, Agreed, SideOf, Expected, FirstSide, Projected, Makes};
 
@@ -38,10 +38,6 @@ pub struct Made {
 // All name numbers are below this: a sheet's, and then as many of a term read beside it.
 pub const NAMES: usize = 2 * NAME_LIMIT;
 
-// What stops, stops at this plus the node. That and what a proposition is are one number and no Result or enum: the walk over a term is
-// 512 levels deep, and an enum takes twice the frame of a number (docs/DECISIONS.md, 135).
-pub const STOPS: usize = STANDING + NODE_LIMIT;
-
 // The propositions that have numbers: those that stand in the code, and those that the nodes of a term made. How long both are is a clause
 // and no ghost field: the checker, which changes the slots, would prove it of each struct that it lends, beside `Space` or `Known`.
 #[derive(Clone, Copy)]
@@ -69,7 +65,7 @@ impl Propositions<'_> {
     // The left side of a binary proposition.
     #[tactic(auto, unfolding(crate::specs::Standing::left_of))]
     pub fn left(&self, p: usize) -> usize
-        requires { p < stops }
+        requires { p < number_limit }
         ensures { result ≡ left_of self.now.made.now p }
     {
         if p < STANDING {
@@ -109,66 +105,68 @@ impl Propositions<'_> {
         self.same(self.right(p), self.right(q))
     }
 
-    // Where r and p are equal propositions, that answer; else a stop, at the node or where r stops.
-    pub fn agree(&self, r: usize, p: usize, node: usize, answer: usize) -> usize
-        requires code_len_bound { (length self.now.code.now ≤ standing) × (length self.now.made.now ≡ node_limit)
-            × (node < node_limit) }
-        requires known { (r < stops → Known self.now.code.now self.now.made.now r)
+    // Whether an answer of `infer` is a proposition equal to p; else the node that stops it, or this one.
+    pub fn agree(&self, answer: Result<usize, usize>, p: usize, node: usize) -> Result<(), usize>
+        requires code_len_bound { (length self.now.code.now ≤ standing) × (length self.now.made.now ≡ node_limit) }
+        requires known { ((r : ℕ) → answer ≡ Ok r → Known self.now.code.now self.now.made.now r)
             × Known self.now.code.now self.now.made.now p }
-        ensures { Agreed self.now.code.now self.now.made.now r p node answer result }
+        ensures { Agreed self.now.code.now self.now.made.now answer p node result }
     {
-        if STOPS <= r {
-            return r;
-        }
+        let r = answer?;
         if self.same(r, p) {
-            return answer;
+            return Ok(());
         }
-        STOPS + node
+        Err(node)
     }
 
-    // What an answer of `infer` is, which must have a connective: the answer itself, or a stop at the node.
-    pub fn expect(&self, r: usize, connective: Connective, node: usize) -> usize
-        requires { (r < stops → Space self.now.code.now self.now.made.now r) × (node < node_limit) }
-        ensures { Expected self.now.code.now self.now.made.now r connective node result }
+    // An answer of `infer` that must have a connective: that proposition, or the node that stops it, or this one.
+    pub fn expect(
+        &self,
+        answer: Result<usize, usize>,
+        connective: Connective,
+        node: usize,
+    ) -> Result<usize, usize>
+        requires { (r : ℕ) → answer ≡ Ok r → Space self.now.code.now self.now.made.now r }
+        ensures { Expected self.now.code.now self.now.made.now answer connective node result }
     {
-        if STOPS <= r {
-            return r;
-        }
+        let r = answer?;
         if self.connective(r) == Some(connective) {
-            return r;
+            return Ok(r);
         }
-        STOPS + node
+        Err(node)
     }
 
-    // The side of a conjunction that is inferred, as the closure finds it, or a stop.
+    // The side of a conjunction that is inferred, as the closure finds it; or the node that stops it, or this one.
     #[tactic(auto, using(crate::proofs::Halves::expected_space))]
-    fn project<F: Fn(usize) -> usize>(&self, r: usize, node: usize, side: F) -> usize
-        requires given { (r < stops → Space self.now.code.now self.now.made.now r) × (node < node_limit) }
+    fn project<F: Fn(usize) -> usize>(
+        &self,
+        answer: Result<usize, usize>,
+        node: usize,
+        side: F,
+    ) -> Result<usize, usize>
+        requires given { (r : ℕ) → answer ≡ Ok r → Space self.now.code.now self.now.made.now r }
         requires side { (p : ℕ) → Space self.now.code.now self.now.made.now p → F.pre side p }
-        ensures { Projected self.now.code.now self.now.made.now r (F.post side) node result }
+        ensures { Projected self.now.code.now self.now.made.now answer (F.post side) node result }
     {
-        let whole = self.expect(r, Connective::And, node);
-        if STOPS <= whole {
-            return whole;
-        }
-        side(whole)
+        let whole = self.expect(answer, Connective::And, node)?;
+        Ok(side(whole))
     }
 
-    // The first side of a conjunction that is inferred, or a stop.
-    pub fn first_side(&self, r: usize, node: usize) -> usize
-        requires { (r < stops → Space self.now.code.now self.now.made.now r) × (node < node_limit) }
-        ensures { Projected self.now.code.now self.now.made.now r (FirstSide self.now.made.now) node result }
+    // The first side of a conjunction that is inferred, or the node that stops it.
+    pub fn first_side(&self, answer: Result<usize, usize>, node: usize) -> Result<usize, usize>
+        requires { (r : ℕ) → answer ≡ Ok r → Space self.now.code.now self.now.made.now r }
+        ensures { Projected self.now.code.now self.now.made.now answer (FirstSide self.now.made.now) node result }
     {
-        self.project(r, node, |whole| self.left(whole))
+        self.project(answer, node, |whole| self.left(whole))
     }
 
     // The second side.
-    pub fn second_side(&self, r: usize, node: usize) -> usize
-        requires { (r < stops → Space self.now.code.now self.now.made.now r) × (node < node_limit) }
-        ensures { Projected self.now.code.now self.now.made.now r
+    pub fn second_side(&self, answer: Result<usize, usize>, node: usize) -> Result<usize, usize>
+        requires { (r : ℕ) → answer ≡ Ok r → Space self.now.code.now self.now.made.now r }
+        ensures { Projected self.now.code.now self.now.made.now answer
             (RightOf self.now.code.now self.now.made.now) node result }
     {
-        self.project(r, node, |whole| self.right(whole))
+        self.project(answer, node, |whole| self.right(whole))
     }
 }
 
@@ -183,15 +181,15 @@ pub fn same_code(code: &[u8], i: usize, j: usize) -> bool
     code[i..i_end] == code[j..j_end]
 }
 
-// The right side of the proposition that stands at p, if it has that connective; else a stop at the node.
-pub fn side_of(code: &[u8], p: usize, connective: Connective, node: usize) -> usize
-    requires { Stood code.now p × (length code.now ≤ standing) × (node < node_limit) }
+// The right side of the proposition that stands at p, if it has that connective; else the node.
+pub fn side_of(code: &[u8], p: usize, connective: Connective, node: usize) -> Result<usize, usize>
+    requires { Stood code.now p × (length code.now ≤ standing) }
     ensures { SideOf code.now p connective node result }
 {
     if code[p] == connective.byte() {
-        return known_end(code, p + 1, NAMES);
+        return Ok(scan(code, p + 1, NAMES));
     }
-    STOPS + node
+    Err(node)
 }
 
 // Makes a proposition of two, the second as `infer` answers it: its number, or the node that stops the second.
@@ -201,18 +199,16 @@ pub fn make(
     node: usize,
     connective: Connective,
     left: usize,
-    right: usize,
-) -> usize
-    requires { (node < node_limit) × (left < stops) }
+    right: Result<usize, usize>,
+) -> Result<usize, usize>
+    requires { (node < node_limit) × (left < number_limit) × ((p : ℕ) → right ≡ Ok p → p < number_limit) }
     ensures { Makes made.old node connective left right made.new result }
 {
-    if STOPS <= right {
-        return right;
-    }
+    let right = right?;
     made[node] = Made {
         connective: Some(connective),
         left: left as u32,
         right: right as u32,
     };
-    STANDING + node
+    Ok(STANDING + node)
 }

@@ -7,9 +7,10 @@ use Rattle.sheet.proofs.Admitted.{has_codes}
 use Rattle.checker.specs.Judging.{Checks}
 use Rattle.judgement.specs.Asked.{ruled}
 use Rattle.judgement.proofs.Standing.{stood_at}
+use Rattle.judgement.proofs.Answers.{stops_at}
 use Rattle.judgement.proofs.Asking.{enterable, in_scope, judgeable, rules_say}
 use Rattle.judgement.proofs.decide.Goals as goal
-use Rattle.judgement.proofs.decide.Goals.{After-check-r, After-pair_offset-at}
+use Rattle.judgement.proofs.decide.Goals.{After-check, After-pair_offset-at}
 
 pub stand-requires : goal.stand-requires
 stand-requires c = omega (arith, c.requires.lowest.long)
@@ -31,25 +32,22 @@ found : (c : After-pair_offset-at) → let given = c.args in
 found c =
     c.pair_offset-at.ensures ∙ ap (λ pairs. pair_offset pairs c.args.k) c.proposition_pairs-pairs.ensures.is
 
-pub check-r-requires : goal.check-r-requires
-check-r-requires c =
+pub check-requires : goal.check-requires
+check-requires c =
     let record { held_term = term; lowest = numbers; known = known } = c.requires in
     let record { is = is; accepted = sheet } = c.proposition_pairs-pairs.ensures in
     let names = in_scope sheet numbers _ known.hypotheses c.stand.ensures is refl c.assume.ensures in (
       judgeable sheet numbers c.stand.ensures term c.renumber_records.ensures c.fill_sizes.ensures (search rules) names.entries (search rules),
-      stood_at sheet numbers c.stand.ensures known.proposition (found (goal.at.check-r-requires c).After-pair_offset-at),
+      stood_at sheet numbers c.stand.ensures known.proposition (found (goal.at.check-requires c).After-pair_offset-at),
     )
 
 -- what the checker says
-said : (c : After-check-r) → let given = c.args in Checks (ruled given.sheet.now given.terms.now given.n given.hypotheses.now given.k) c.check-r.result
+said : (c : After-check) → let given = c.args in Checks (ruled given.sheet.now given.terms.now given.n given.hypotheses.now given.k) c.check.result
 said c =
     let record { held_term = term; lowest = numbers; known = known } = c.requires in
     let record { is = is; accepted = sheet } = c.proposition_pairs-pairs.ensures in
-    rules_say sheet numbers c.stand.ensures term c.renumber_records.ensures c.fill_sizes.ensures known.proposition (found (goal.at.After-check-r c).After-pair_offset-at)
-    (in_scope sheet numbers _ known.hypotheses c.stand.ensures is refl c.assume.ensures) c.check-r.ensures
-
-pub stopping_node-requires : goal.stopping_node-requires
-stopping_node-requires c = record { judged = _; shown = said (goal.at.stopping_node-requires c).After-check-r }
+    rules_say sheet numbers c.stand.ensures term c.renumber_records.ensures c.fill_sizes.ensures known.proposition (found (goal.at.After-check c).After-pair_offset-at)
+    (in_scope sheet numbers _ known.hypotheses c.stand.ensures is refl c.assume.ensures) c.check.ensures
 
 pub returns : goal.returns
-returns c = c.stopping_node.ensures _ (said (goal.at.returns c).After-check-r)
+returns c = stops_at _ (said (goal.at.returns c).After-check) c.err.ensures.value

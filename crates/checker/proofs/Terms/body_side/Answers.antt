@@ -3,22 +3,16 @@ use Prim.Native.Nat.{ℕ, ◌*◌}
 use mathlib.Core.Path.{◌≡◌, refl, sym, ap, ◌∙◌}
 use mathlib.Core.List.{List}
 use native.Mathlib.Omega.{arith}
-use lib.ListN.{get_or}
 use borrow.Author.Tests.{eqb-false}
 use Rattle.std.specs.Prelude.{Some}
-use Rattle.definitions.specs.Prop.{impl, connective_byte}
 use Rattle.proof_term.specs.Records.{field_at}
 use Rattle.proof_term.proofs.Views.{number_of_kind, no_parameter, parameter_read, datatype_read, proposition_read}
-use Rattle.prefix_code.specs.declared.Connective.TheVariants.{Impl}
 use Rattle.prop_numbers.specs.Standing.{Stood}
-use Rattle.prop_numbers.proofs.Halves.{halves}
-use Rattle.checker.proofs.Labels.{tested_none, tested_datatype, tested_prop, body_stop, body_side, not_side, has_connective}
+use Rattle.checker.proofs.Answers.{passed_on}
+use Rattle.checker.proofs.Steps.{side_halves}
+use Rattle.checker.proofs.Labels.{tested_none, tested_datatype, tested_prop, body_stop, not_side}
 use Rattle.checker.proofs.Terms.body_side.Goals as goal
-use Rattle.checker.proofs.Terms.body_side.Goals.{Else-side-ge-STOPS, After-from}
-
--- it is an implication
-implication : (c : Else-side-ge-STOPS) → get_or c.args.self.now.code.now c.args.p 0 ≡ connective_byte impl
-implication c = has_connective c.side_of-side.ensures c.if-side-ge-STOPS.false
+use Rattle.checker.proofs.Terms.body_side.Goals.{After-from}
 
 -- the label is a proposition, and stands
 record LabelStands (records code : List ℕ) (stride m number : ℕ) : Type 0 where
@@ -41,13 +35,13 @@ label_stands c =
       stood = rw (c.from.ensures, read.1) (c.requires.m_in_bounds.1.parameter (number_of_kind c.requires.m_value.0 (λ u. cc)) (eqb-false kind 0 label.0) read.0);
     }
 
-pub returns-then-side-ge-STOPS : goal.returns-then-side-ge-STOPS
-returns-then-side-ge-STOPS c = body_stop c.requires.m_value.2 c.requires.m_value.1 c.side_of-side.ensures c.if-side-ge-STOPS.true
+pub returns-in_err-side : goal.returns-in_err-side
+returns-in_err-side c = rw (passed_on c.from_residual.ensures) (body_stop c.in_err-side.ensures)
 
 pub returns-in-None : goal.returns-in-None
 returns-in-None c =
     let none = no_parameter (field_at c.args.self.now.records.now c.args.m 3) (field_at c.args.self.now.records.now c.args.m 4) (sym c.parameter_at.ensures ∙ c.in-None.is) in
-    body_side (tested_none refl none) c.side_of-side.ensures (implication (goal.at.returns-in-None c).Else-side-ge-STOPS)
+    record { side = c.in_ok-side.ensures; label = tested_none refl none }
 
 pub returns-in-Some-Datatype : goal.returns-in-Some-Datatype
 returns-in-Some-Datatype c =
@@ -55,23 +49,23 @@ returns-in-Some-Datatype c =
     let kind = field_at c.args.self.now.records.now c.args.m 3 in
     let number = field_at c.args.self.now.records.now c.args.m 4 in
     let label = parameter_read kind number (sym c.parameter_at.ensures ∙ arm.is ∙ ap Some arm.field-0-is) in
-    not_side (tested_datatype refl (datatype_read kind number label.1).0) (implication (goal.at.returns-in-Some-Datatype c).Else-side-ge-STOPS)
+    not_side (tested_datatype refl (datatype_read kind number label.1).0)
 
 pub overflow_mul-self : goal.overflow_mul-self
 overflow_mul-self c = omega (arith, (label_stands c).stood.low)
 
 pub same_code-requires : goal.same_code-requires
 same_code-requires c =
-    let here = implication (goal.at.same_code-requires c).Else-side-ge-STOPS in
-    ((label_stands (goal.at.same_code-requires c).After-from).stood.there, (halves Impl c.requires.m_value.2 c.requires.m_value.1 here (c.side_of-side.ensures.found here)).left.there)
+    ((label_stands (goal.at.same_code-requires c).After-from).stood.there, (side_halves c.requires.m_value.2 c.requires.m_value.1 c.in_ok-side.ensures).left.there)
 
 pub returns-then-same_code : goal.returns-then-same_code
 returns-then-same_code c =
-    let label = label_stands (goal.at.returns-then-same_code c).After-from in
-    body_side (tested_prop refl label.some label.other label.is (λ f one. sym c.if-same_code.true ∙ c.same_code.ensures f one))
-    c.side_of-side.ensures (implication (goal.at.returns-then-same_code c).Else-side-ge-STOPS)
+    let label = label_stands (goal.at.returns-then-same_code c).After-from in record {
+      side = c.in_ok-side.ensures;
+      label = tested_prop refl label.some label.other label.is (λ f one. sym c.if-same_code.true ∙ c.same_code.ensures f one);
+    }
 
 pub returns-else-same_code : goal.returns-else-same_code
 returns-else-same_code c =
     let label = label_stands (goal.at.returns-else-same_code c).After-from in
-    not_side (tested_prop refl label.some label.other label.is (λ f one. sym c.if-same_code.false ∙ c.same_code.ensures f one)) (implication (goal.at.returns-else-same_code c).Else-side-ge-STOPS)
+    not_side (tested_prop refl label.some label.other label.is (λ f one. sym c.if-same_code.false ∙ c.same_code.ensures f one))
