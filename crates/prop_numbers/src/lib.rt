@@ -74,7 +74,8 @@ impl Propositions<'_> {
         self.made[p - STANDING].left as usize
     }
 
-    // The right side. What can be looked up need not be binary: where no proposition stands behind its byte, past the end of the code.
+    // The right side. It may be asked of any number that can be looked up, and answers each, so no Option: where no proposition stands behind
+    // the byte at p, a position past the end of the code.
     #[tactic(auto, unfolding(crate::specs::Standing::right_of))]
     pub fn right(&self, p: usize) -> usize
         requires { Space self.now.code.now self.now.made.now p }
