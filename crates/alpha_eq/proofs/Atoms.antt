@@ -5,13 +5,12 @@ use mathlib.Core.Path.{◌≡◌, refl}
 use mathlib.Core.Bool.{Bool, true, false}
 use mathlib.Core.List.{List}
 use native.Mathlib.Omega.{arith}
-use lib.ListN.{length, take, get_or, length-map}
+use lib.ListN.{length, get_or, length-map}
 use lib.Dec.{eqb}
 use borrow.Author.Tests.{eq-eqb, ne_eqb}
 use Rattle.definitions.specs.Outcome.{accepted}
 use Rattle.definitions.specs.Name.{eq_name}
 use Rattle.definitions.specs.Sheet.{number_at, marked}
-use Rattle.definitions.specs.Prop.{Applied}
 use Rattle.definitions.specs.Code.{u16, encode, Codable}
 use Rattle.definitions.specs.Comparison.{no, and_also, alpha_eq_atom}
 use Rattle.prefix_code.specs.Scan.{Stands}
@@ -19,7 +18,6 @@ use Rattle.prefix_code.specs.Head.{encode_head, CodableHead}
 use Rattle.prefix_code.proofs.Heads.{AtomBytes, atom_bytes}
 use Rattle.alpha_eq.specs.declared.Pair.{Pair}
 use Rattle.alpha_eq.specs.Comparing.{Compared, compared, alpha_eq_parameters_in, alpha_eq_atom_in, of_applied, form_coding, several_coding, Standing, end_of, Two, Answers}
-use Rattle.alpha_eq.proofs.Bindings.{bindings_cut}
 
 module _ {names : ℕ} {code : List ℕ} {at : ℕ} (s : Standing (form_coding of_applied) names code at) where
   pub atom_at : AtomBytes names code at s.value.atom s.value.parameters s.rest
@@ -42,14 +40,14 @@ module _ {code : List ℕ} {i j : ℕ} (counted : get_or code (i + 3) 0 ≡ get_
   abbrev pub two_lists : {names : ℕ} → Two (form_coding of_applied) code i j names → Two (several_coding (get_or code (i + 3) 0)) code (i + 4) (j + 4) names
   two_lists two = record { left = parameters_of two.left refl; right = parameters_of two.right counted }
 
-module _ (pairs text : List ℕ) (memory : List Pair) (depth : ℕ) (code : List ℕ) (i j : ℕ) {x y : ℕ} {same : Bool}
+module _ (pairs text : List ℕ) (above : List Pair) (code : List ℕ) (i j : ℕ) {x y : ℕ} {same : Bool}
     (x-at : x ≡ number_at code (i + 1)) (y-at : y ≡ number_at code (j + 1)) (named : same ≡ eq_name (marked pairs text x) (marked pairs text y)) where
   -- the outcome by the numbers in the code
   atom_outcome : {names : ℕ} (two : Two (form_coding of_applied) code i j names)
-      → alpha_eq_atom_in pairs text memory depth two.left.value two.right.value
+      → alpha_eq_atom_in pairs text above two.left.value two.right.value
       ≡ and_also (accepted same)
       (and_also (accepted (eqb (get_or code (i + 3) 0) (get_or code (j + 3) 0)))
-      (alpha_eq_parameters_in pairs text memory depth two.left.value.parameters two.right.value.parameters))
+      (alpha_eq_parameters_in pairs text above two.left.value.parameters two.right.value.parameters))
   unfolding alpha_eq_atom_in alpha_eq_atom alpha_eq_parameters_in
   atom_outcome two =
       let l = atom_at two.left in
@@ -57,13 +55,13 @@ module _ (pairs text : List ℕ) (memory : List Pair) (depth : ℕ) (code : List
       rw (named, x-at, y-at, l.name, r.name, l.count, r.count) (simp length-map)
 
   -- different names: no
-  pub other_name : same ≡ false → Answers (form_coding of_applied) code i j (alpha_eq_atom_in pairs text memory depth) (Ok None)
+  pub other_name : same ≡ false → Answers (form_coding of_applied) code i j (alpha_eq_atom_in pairs text above) (Ok None)
   unfolding compared and_also no
   other_name e = record { answer = λ names two. rw (atom_outcome two, e) }
 
   -- one name with different counts: no
   pub other_count : same ≡ true → (get_or code (i + 3) 0 ≡ get_or code (j + 3) 0 → ⊥)
-      → Answers (form_coding of_applied) code i j (alpha_eq_atom_in pairs text memory depth) (Ok None)
+      → Answers (form_coding of_applied) code i j (alpha_eq_atom_in pairs text above) (Ok None)
   unfolding compared and_also no
   other_count e differ = record {
     answer = λ names two. rw (atom_outcome two, e, ne_eqb (get_or code (i + 3) 0) (get_or code (j + 3) 0) differ);
@@ -71,17 +69,11 @@ module _ (pairs text : List ℕ) (memory : List Pair) (depth : ℕ) (code : List
 
   -- else the parameters decide
   pub by_parameters : same ≡ true → get_or code (i + 3) 0 ≡ get_or code (j + 3) 0 → {r : Compared}
-      → Answers (several_coding (get_or code (i + 3) 0)) code (i + 4) (j + 4) (alpha_eq_parameters_in pairs text memory depth) r
-      → Answers (form_coding of_applied) code i j (alpha_eq_atom_in pairs text memory depth) r
+      → Answers (several_coding (get_or code (i + 3) 0)) code (i + 4) (j + 4) (alpha_eq_parameters_in pairs text above) r
+      → Answers (form_coding of_applied) code i j (alpha_eq_atom_in pairs text above) r
   unfolding and_also
   by_parameters e counted decided = record {
     answer = λ names two.
         rw (atom_outcome two, e, eq-eqb (get_or code (i + 3) 0) (get_or code (j + 3) 0) counted, ← atom_end two.left refl, ← atom_end two.right counted)
         (decided.answer names (two_lists counted two));
   }
-
--- an atom is compared alike by the bindings cut behind those that count
-pub atom_cut : (pairs text : List ℕ) (memory : List Pair) (depth : ℕ) → depth ≤ length memory → (a b : Applied ℕ)
-    → alpha_eq_atom_in pairs text memory depth a b ≡ alpha_eq_atom_in pairs text (take depth memory) (length (take depth memory)) a b
-unfolding alpha_eq_atom_in
-atom_cut pairs text memory depth room a b = rw (bindings_cut memory depth room (marked pairs text)) refl

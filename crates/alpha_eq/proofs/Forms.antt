@@ -11,7 +11,7 @@ use borrow.Author.Tests.{ne_eqb}
 use Rattle.definitions.specs.Outcome.{Outcome, accepted}
 use Rattle.definitions.specs.Name.{Name}
 use Rattle.definitions.specs.Sheet.{marked}
-use Rattle.definitions.specs.Prop.{Prop, True, False, Binary, Atom, Quantified, Sides, Applied, Scope, connective_byte, quantifier_byte, eq_connective, eq_quantifier, is_true, is_false, as_binary, as_atom, as_quantified, rename_prop, nesting}
+use Rattle.definitions.specs.Prop.{Prop, True, False, Binary, Atom, Quantified, Sides, Applied, Scope, connective_byte, quantifier_byte, eq_connective, eq_quantifier, is_true, is_false, as_binary, as_atom, as_quantified, rename_prop}
 use Rattle.definitions.specs.Code.{encode}
 use Rattle.definitions.specs.Comparison.{Binding, no as a-no, and_also, alpha_eq_sides, alpha_eq_applied, alpha_eq_scope, alpha_eq_under}
 use Rattle.definitions.proofs.Views.{is_true_true, is_false_true, as_binary_some, as_atom_some, as_quantified_some}
@@ -21,7 +21,7 @@ use Rattle.prefix_code.proofs.Forms.{inside_at, binary_at, atom_at, quantified_a
 use Rattle.prefix_code.proofs.Reading as reading
 use Rattle.alpha_eq.specs.declared.Pair.{Pair}
 use Rattle.alpha_eq.specs.Bindings.{bindings_of}
-use Rattle.alpha_eq.specs.Comparing.{Compared, compared, alpha_eq_under_in, alpha_eq_sides_in, alpha_eq_atom_in, alpha_eq_scope_in, of_sides, of_applied, of_scope, form_coding, Standing, end_of, Two, Answers, WithRoom}
+use Rattle.alpha_eq.specs.Comparing.{Compared, compared, alpha_eq_under_in, alpha_eq_sides_in, alpha_eq_atom_in, alpha_eq_scope_in, of_sides, of_applied, of_scope, form_coding, Standing, end_of, Two, Comparable, Answers}
 
 -- the byte in front of a proposition's code
 abbrev front_byte : {N : Type 0} → Prop N → ℕ
@@ -77,22 +77,22 @@ front_at : {names : ℕ} {code : List ℕ} {at : ℕ} (name_of : ℕ → Name) (
 unfolding Stands
 front_at {code} {at} name_of s = front_stands code at s.value s.rest s.stands.1 ∙ sym (front_renamed name_of s.value)
 
-pub inside : {pairs text : List ℕ} {memory : List Pair} {depth : ℕ} {code : List ℕ} {i j : ℕ} → WithRoom (λ p. p) code i j pairs text memory depth
+pub inside : {pairs text : List ℕ} {above : List Pair} {code : List ℕ} {i j : ℕ} → Comparable proposition_coding code i j pairs text above
     → (i < length code) × (j < length code)
 inside {code} {i} {j} asked =
-    let names = asked.forms.names in
-    let l = asked.forms.two.left in
-    let r = asked.forms.two.right in
+    let names = asked.names in
+    let l = asked.two.left in
+    let r = asked.two.right in
     ((inside_at names code i l.rest l.value l.stands).0, (inside_at names code j r.rest r.value r.stands).0)
 
 -- the byte in front is that of a head
-pub known : {pairs text : List ℕ} {memory : List Pair} {depth : ℕ} {code : List ℕ} {i j : ℕ} → WithRoom (λ p. p) code i j pairs text memory depth → get_or code i 0 < 8
+pub known : {pairs text : List ℕ} {above : List Pair} {code : List ℕ} {i j : ℕ} → Comparable proposition_coding code i j pairs text above → get_or code i 0 < 8
 known {code} {i} asked =
-    let l = asked.forms.two.left in
-    (reading.inside (reading.present asked.forms.names code i l.value l.rest l.stands)).known
+    let l = asked.two.left in
+    (reading.inside (reading.present asked.names code i l.value l.rest l.stands)).known
 
-module _ (pairs text : List ℕ) (memory : List Pair) (depth : ℕ) (code : List ℕ) (i j : ℕ) where
-  pub other_front : (get_or code i 0 ≡ get_or code j 0 → ⊥) → Answers proposition_coding code i j (alpha_eq_under_in pairs text memory depth) (Ok None)
+module _ (pairs text : List ℕ) (above : List Pair) (code : List ℕ) (i j : ℕ) where
+  pub other_front : (get_or code i 0 ≡ get_or code j 0 → ⊥) → Answers proposition_coding code i j (alpha_eq_under_in pairs text above) (Ok None)
   unfolding compared alpha_eq_under_in
   other_front differ = record {
     answer = λ names two.
@@ -100,18 +100,18 @@ module _ (pairs text : List ℕ) (memory : List Pair) (depth : ℕ) (code : List
         let l = front_at name_of two.left in
         let r = front_at name_of two.right in
         rw
-        (fronts_differ (rename_prop name_of two.left.value) (bindings_of name_of memory depth) (rename_prop name_of two.right.value)
+        (fronts_differ (rename_prop name_of two.left.value) (bindings_of name_of above) (rename_prop name_of two.right.value)
         (λ same. differ (l ∙ (same ∙ sym r))));
   }
 
   -- two of one leaf are the same
   pub same_leaf : get_or code i 0 ≡ get_or code j 0 → get_or code i 0 < 2
-      → Answers proposition_coding code i j (alpha_eq_under_in pairs text memory depth) (Ok (Some (i + 1, j + 1)))
+      → Answers proposition_coding code i j (alpha_eq_under_in pairs text above) (Ok (Some (i + 1, j + 1)))
   unfolding compared alpha_eq_under_in alpha_eq_under rename_prop is_true is_false encode
   same_leaf fronts low = record { answer = λ names two. go names two.left two.right (dec_lt (get_or code i 0) 1) }
     where
       go : (names : ℕ) (l : Standing proposition_coding names code i) (r : Standing proposition_coding names code j) → Dec (get_or code i 0 < 1)
-          → Ok (Some (i + 1, j + 1)) ≡ compared (alpha_eq_under_in pairs text memory depth l.value r.value) (end_of l) (end_of r)
+          → Ok (Some (i + 1, j + 1)) ≡ compared (alpha_eq_under_in pairs text above l.value r.value) (end_of l) (end_of r)
       go names l r (yes h) =
           rw (true_at names code i l.rest l.value l.stands (omega arith), true_at names code j r.rest r.value r.stands (omega arith))
       go names l r (no h) =
@@ -168,15 +168,10 @@ module _ {A : Type 0} (make : A → Prop ℕ) {code : List ℕ} {i j : ℕ} (for
     two_forms : Two (form_coding make) code i j names
     two_forms = record { left = left_form.0; right = right_form.0 }
 
-  pub forms_asked : {pairs text : List ℕ} {memory : List Pair} {depth : ℕ} → WithRoom (λ p. p) code i j pairs text memory depth
-      → WithRoom make code i j pairs text memory depth
+  pub forms_asked : {pairs text : List ℕ} {above : List Pair} → Comparable proposition_coding code i j pairs text above
+      → Comparable (form_coding make) code i j pairs text above
   unfolding two_forms
-  forms_asked {memory} {depth} asked =
-      let two = asked.forms.two in
-      record {
-        forms = record { names = asked.forms.names; two = two_forms two; named = asked.forms.named; bound = asked.forms.bound };
-        room = subst (λ (p : Prop ℕ). depth + nesting p ≤ length memory) (left_form two).1 asked.room;
-      }
+  forms_asked asked = record { names = asked.names; two = two_forms asked.two; named = asked.named; bound = asked.bound }
 
   pub by_form : (outcome : A → A → Outcome Bool) (whole : Prop ℕ → Prop ℕ → Outcome Bool) → ((a b : A) → whole (make a) (make b) ≡ outcome a b)
       → {r : Compared} → Answers (form_coding make) code i j outcome r → Answers proposition_coding code i j whole r
@@ -189,15 +184,15 @@ module _ {A : Type 0} (make : A → Prop ℕ) {code : List ℕ} {i j : ℕ} (for
         cc (same l.value m.value);
   }
 
-module _ (pairs text : List ℕ) (memory : List Pair) (depth : ℕ) where
-  pub sides_under : (a b : Sides ℕ) → alpha_eq_under_in pairs text memory depth (of_sides a) (of_sides b) ≡ alpha_eq_sides_in pairs text memory depth a b
+module _ (pairs text : List ℕ) (above : List Pair) where
+  pub sides_under : (a b : Sides ℕ) → alpha_eq_under_in pairs text above (of_sides a) (of_sides b) ≡ alpha_eq_sides_in pairs text above a b
   unfolding alpha_eq_under_in alpha_eq_sides_in alpha_eq_under rename_prop
   sides_under a b = refl
 
-  pub atom_under : (a b : Applied ℕ) → alpha_eq_under_in pairs text memory depth (of_applied a) (of_applied b) ≡ alpha_eq_atom_in pairs text memory depth a b
+  pub atom_under : (a b : Applied ℕ) → alpha_eq_under_in pairs text above (of_applied a) (of_applied b) ≡ alpha_eq_atom_in pairs text above a b
   unfolding alpha_eq_under_in alpha_eq_atom_in alpha_eq_under alpha_eq_applied as_atom rename_prop
   atom_under a b = refl
 
-  pub scope_under : (a b : Scope ℕ) → alpha_eq_under_in pairs text memory depth (of_scope a) (of_scope b) ≡ alpha_eq_scope_in pairs text memory depth a b
+  pub scope_under : (a b : Scope ℕ) → alpha_eq_under_in pairs text above (of_scope a) (of_scope b) ≡ alpha_eq_scope_in pairs text above a b
   unfolding alpha_eq_under_in alpha_eq_scope_in alpha_eq_under rename_prop
   scope_under a b = refl

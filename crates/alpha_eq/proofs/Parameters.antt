@@ -36,22 +36,22 @@ pub parameters_inside : {names : ℕ} {code : List ℕ} {i j : ℕ} → Two para
 parameters_inside two = (omega (arith, parameter_at two.left), omega (arith, parameter_at two.right))
 
 -- the names of two lie in the text
-pub names_within : {pairs text : List ℕ} {memory : List Pair} {depth : ℕ} {code : List ℕ} {i j x y : ℕ} → Comparable parameter_coding code i j pairs text memory depth
+pub names_within : {pairs text : List ℕ} {above : List Pair} {code : List ℕ} {i j x y : ℕ} → Comparable parameter_coding code i j pairs text above
     → x ≡ number_at code (i + 1) → y ≡ number_at code (j + 1) → NameWithin pairs text x × NameWithin pairs text y
 names_within {x} {y} asked x-at y-at =
     let l = parameter_at asked.two.left in
     let r = parameter_at asked.two.right in
     (last_within (asked.named x (omega arith)), last_within (asked.named y (omega arith)))
 
-module _ (pairs text : List ℕ) (memory : List Pair) (depth : ℕ) (code : List ℕ) (i j : ℕ) where
+module _ (pairs text : List ℕ) (above : List Pair) (code : List ℕ) (i j : ℕ) where
   -- of different kinds: no
   pub other_kind : (get_or code i 0 ≡ get_or code j 0 → ⊥)
-      → Answers parameter_coding code i j (alpha_eq_parameter_in pairs text memory depth) (Ok None)
+      → Answers parameter_coding code i j (alpha_eq_parameter_in pairs text above) (Ok None)
   unfolding compared alpha_eq_parameter_in alpha_eq_parameter rename_parameter a-no
   other_kind differ = record { answer = λ names two. go names two (dec_lt (get_or code i 0) 1) }
     where
       go : (names : ℕ) (two : Two parameter_coding code i j names) → Dec (get_or code i 0 < 1)
-          → Ok None ≡ compared (alpha_eq_parameter_in pairs text memory depth two.left.value two.right.value) (end_of two.left) (end_of two.right)
+          → Ok None ≡ compared (alpha_eq_parameter_in pairs text above two.left.value two.right.value) (end_of two.left) (end_of two.right)
       go names two (yes h) =
           let l = parameter_at two.left in
           let r = parameter_at two.right in
@@ -64,8 +64,8 @@ module _ (pairs text : List ℕ) (memory : List Pair) (depth : ℕ) (code : List
   -- two uninstantiated ones: by the bindings
   pub uninstantiated_both : {x y : ℕ} {outcome : Outcome Bool} {r : Compared} → get_or code i 0 ≡ 0 → get_or code j 0 ≡ 0
       → x ≡ number_at code (i + 1) → y ≡ number_at code (j + 1)
-      → outcome ≡ bound_alike_in pairs text memory depth x y → r ≡ compared outcome (i + 3) (j + 3)
-      → Answers parameter_coding code i j (alpha_eq_parameter_in pairs text memory depth) r
+      → outcome ≡ bound_alike_in pairs text above x y → r ≡ compared outcome (i + 3) (j + 3)
+      → Answers parameter_coding code i j (alpha_eq_parameter_in pairs text above) r
   unfolding bound_alike_in alpha_eq_parameter_in alpha_eq_parameter rename_parameter encode_parameter u16
   uninstantiated_both h k x-at y-at decided e = record {
     answer = λ names two.
@@ -76,7 +76,7 @@ module _ (pairs text : List ℕ) (memory : List Pair) (depth : ℕ) (code : List
   pub instantiated_both : {x y id other : ℕ} {same : Bool} {r : Compared} → get_or code i 0 ≡ 1 → get_or code j 0 ≡ 1
       → x ≡ number_at code (i + 1) → y ≡ number_at code (j + 1) → id ≡ number_at code (i + 3) → other ≡ number_at code (j + 3)
       → same ≡ eq_name (marked pairs text x) (marked pairs text y) → r ≡ compared (accepted (same && eqb id other)) (i + 5) (j + 5)
-      → Answers parameter_coding code i j (alpha_eq_parameter_in pairs text memory depth) r
+      → Answers parameter_coding code i j (alpha_eq_parameter_in pairs text above) r
   unfolding alpha_eq_parameter_in alpha_eq_parameter rename_parameter encode_parameter u16
   instantiated_both h k x-at y-at id-here other-here named e = record {
     answer = λ names two.
@@ -96,26 +96,26 @@ cons_length : {ps others : List (PropParameter ℕ)} {p : PropParameter ℕ} →
 unfolding encode_parameters
 cons_length {others} {p} e = rw e (length-append (encode_parameter p) (encode_parameters others))
 
-module _ (pairs text : List ℕ) (memory : List Pair) (depth : ℕ) where
+module _ (pairs text : List ℕ) (above : List Pair) where
   -- what is left to compare, so many parameters from `left` and `right` on, decides the comparison from i and j on
   pub record Remaining (code : List ℕ) (i j count left right needed : ℕ) : Type 0 where
-    pub asked : Comparable (several_coding needed) code left right pairs text memory depth
-    pub decides : (r : Compared) → Answers (several_coding needed) code left right (alpha_eq_parameters_in pairs text memory depth) r
-        → Answers (several_coding count) code i j (alpha_eq_parameters_in pairs text memory depth) r
+    pub asked : Comparable (several_coding needed) code left right pairs text above
+    pub decides : (r : Compared) → Answers (several_coding needed) code left right (alpha_eq_parameters_in pairs text above) r
+        → Answers (several_coding count) code i j (alpha_eq_parameters_in pairs text above) r
 
   -- at first all are left
-  pub all_left : {code : List ℕ} {i j count : ℕ} → Comparable (several_coding count) code i j pairs text memory depth
+  pub all_left : {code : List ℕ} {i j count : ℕ} → Comparable (several_coding count) code i j pairs text above
       → Remaining code i j count i j (count - 0)
   all_left {count} asked = let all : count - 0 ≡ count = omega arith in rw all (record { asked = asked; decides = λ r h. h })
 
   cons_outcome : {ps qs others rest : List (PropParameter ℕ)} {p q : PropParameter ℕ} → ps ≡ p ∷ others → qs ≡ q ∷ rest
-      → alpha_eq_parameters_in pairs text memory depth ps qs
-      ≡ and_also (alpha_eq_parameter_in pairs text memory depth p q) (alpha_eq_parameters_in pairs text memory depth others rest)
+      → alpha_eq_parameters_in pairs text above ps qs
+      ≡ and_also (alpha_eq_parameter_in pairs text above p q) (alpha_eq_parameters_in pairs text above others rest)
   unfolding alpha_eq_parameter_in alpha_eq_parameters_in alpha_eq_parameters
   cons_outcome e f = rw (e, f)
 
-module _ {pairs text : List ℕ} {memory : List Pair} {depth : ℕ} {code : List ℕ} {i j count left right needed : ℕ}
-    (held : Remaining pairs text memory depth code i j count left right needed) where
+module _ {pairs text : List ℕ} {above : List Pair} {code : List ℕ} {i j count left right needed : ℕ}
+    (held : Remaining pairs text above code i j count left right needed) where
   module _ (more : 0 < needed) where
     parts : {names at : ℕ} (s : Standing (several_coding needed) names code at) → First names code at (needed - 1) s.value
     parts {names} {at} s =
@@ -129,7 +129,7 @@ module _ {pairs text : List ℕ} {memory : List Pair} {depth : ℕ} {code : List
     first_two : {names : ℕ} → Two (several_coding needed) code left right names → Two parameter_coding code left right names
     first_two two = record { left = (parts two.left).first; right = (parts two.right).first }
 
-    pub first_asked : Comparable parameter_coding code left right pairs text memory depth
+    pub first_asked : Comparable parameter_coding code left right pairs text above
     first_asked = record {
       names = held.asked.names;
       two = first_two held.asked.two;
@@ -138,17 +138,17 @@ module _ {pairs text : List ℕ} {memory : List Pair} {depth : ℕ} {code : List
     }
 
     -- a no or a refusal of the first two is the answer
-    pub first_stops : {r : Compared} → Answers parameter_coding code left right (alpha_eq_parameter_in pairs text memory depth) r → Stops r
-        → Answers (several_coding count) code i j (alpha_eq_parameters_in pairs text memory depth) r
+    pub first_stops : {r : Compared} → Answers parameter_coding code left right (alpha_eq_parameter_in pairs text above) r → Stops r
+        → Answers (several_coding count) code i j (alpha_eq_parameters_in pairs text above) r
     unfolding first_two
     first_stops {r} first s = held.decides r (record {
       answer = λ names two.
-          rw (cons_outcome pairs text memory depth (parts two.left).is (parts two.right).is) (stopped _ _ _ s (first.answer names (first_two two)) _ _ _);
+          rw (cons_outcome pairs text above (parts two.left).is (parts two.right).is) (stopped _ _ _ s (first.answer names (first_two two)) _ _ _);
     })
 
     -- after a yes the others are left
-    pub others_left : {a b : ℕ} → Answers parameter_coding code left right (alpha_eq_parameter_in pairs text memory depth) (Ok (Some (a, b)))
-        → Remaining pairs text memory depth code i j count a b (needed - 1)
+    pub others_left : {a b : ℕ} → Answers parameter_coding code left right (alpha_eq_parameter_in pairs text above) (Ok (Some (a, b)))
+        → Remaining pairs text above code i j count a b (needed - 1)
     unfolding first_two
     others_left first =
         let two = held.asked.two in
@@ -165,14 +165,14 @@ module _ {pairs text : List ℕ} {memory : List Pair} {depth : ℕ} {code : List
                 let l = parts two.left in
                 let m = parts two.right in
                 let (accepts, left_end, right_end) = yes_ends _ _ _ (first.answer names (first_two two)) in
-                rw (cons_outcome pairs text memory depth l.is m.is)
+                rw (cons_outcome pairs text above l.is m.is)
                 (followed _ _ accepts (omega (arith, cons_length l.is)) (omega (arith, cons_length m.is))
                 (later.answer names (record { left = moved left_end l.others; right = moved right_end m.others })));
           });
         }
 
   -- where none are left that is a yes
-  pub none_left : needed ≡ 0 → Answers (several_coding count) code i j (alpha_eq_parameters_in pairs text memory depth) (Ok (Some (left, right)))
+  pub none_left : needed ≡ 0 → Answers (several_coding count) code i j (alpha_eq_parameters_in pairs text above) (Ok (Some (left, right)))
   unfolding alpha_eq_parameters_in alpha_eq_parameters encode_parameters compared
   none_left none = held.decides (Ok (Some (left, right))) (record {
     answer = λ names two.

@@ -5,21 +5,20 @@ use mathlib.Core.Path.{◌≡◌, sym, ◌∙◌}
 use mathlib.Core.Bool.{Bool, true, false}
 use mathlib.Core.List.{List, ◌∷◌, ◌++◌}
 use native.Mathlib.Omega.{arith}
-use lib.ListN.{length, get_or, length-set}
+use lib.ListN.{length, get_or}
 use borrow.Author.Tests.{eq-eqb}
 use Rattle.definitions.specs.Outcome.{accepted}
 use Rattle.definitions.specs.Name.{eq_name}
 use Rattle.definitions.specs.Sheet.{number_at, marked}
-use Rattle.definitions.specs.Prop.{quantifier_byte, eq_quantifier, as_quantified, rename_prop, nesting}
+use Rattle.definitions.specs.Prop.{quantifier_byte, eq_quantifier, as_quantified, rename_prop}
 use Rattle.definitions.specs.Code.{u16, encode, Codable}
 use Rattle.definitions.specs.Comparison.{no, and_also, alpha_eq_scope, alpha_eq_under}
 use Rattle.prefix_code.specs.Scan.{Stands, proposition_coding}
 use Rattle.prefix_code.specs.Head.{encode_head, CodableHead}
 use Rattle.prefix_code.proofs.Heads.{QuantifiedBytes, quantified_bytes}
 use Rattle.alpha_eq.specs.declared.Pair.{Pair}
-use Rattle.alpha_eq.specs.Bindings.{bindings_of}
-use Rattle.alpha_eq.specs.Comparing.{Compared, compared, alpha_eq_under_in, alpha_eq_scope_in, of_scope, form_coding, Standing, end_of, Two, Answers, WithRoom}
-use Rattle.alpha_eq.proofs.Bindings.{pushed, bindings_pushed, bound_pushed}
+use Rattle.alpha_eq.specs.Bindings.{binding_of, bindings_of}
+use Rattle.alpha_eq.specs.Comparing.{Compared, compared, alpha_eq_under_in, alpha_eq_scope_in, of_scope, form_coding, Standing, end_of, Two, Comparable, Answers}
 
 module _ {names : ℕ} {code : List ℕ} {at : ℕ} (s : Standing (form_coding of_scope) names code at) where
   pub scope_at : QuantifiedBytes names code at s.value.quantifier s.value.object s.value.datatype (encode s.value.body ++ s.rest)
@@ -47,38 +46,29 @@ abbrev two_bodies : {names : ℕ} {code : List ℕ} {i j : ℕ} → Two (form_co
 two_bodies two = record { left = body_of two.left; right = body_of two.right }
 
 -- what the comparison of the bodies asks
-module _ {pairs text : List ℕ} {memory : List Pair} {depth : ℕ} {code : List ℕ} {i j : ℕ} (asked : WithRoom of_scope code i j pairs text memory depth) where
-  -- room for the binding of the two objects
-  pub room_here : depth + 1 ≤ length memory
-  unfolding nesting
-  room_here = omega (arith, asked.room)
-
+module _ {pairs text : List ℕ} {above : List Pair} {code : List ℕ} {i j : ℕ} (asked : Comparable (form_coding of_scope) code i j pairs text above) where
   pub bodies_asked : {x y : ℕ} → x ≡ number_at code (i + 1) → y ≡ number_at code (j + 1)
-      → WithRoom (λ p. p) code (i + 5) (j + 5) pairs text (pushed memory depth x y) (depth + 1)
-  unfolding nesting
+      → Comparable proposition_coding code (i + 5) (j + 5) pairs text (record { left = x; right = y } ∷ above)
   bodies_asked {x} {y} x-at y-at =
-      let l = scope_at asked.forms.two.left in
-      let r = scope_at asked.forms.two.right in
+      let l = scope_at asked.two.left in
+      let r = scope_at asked.two.right in
       record {
-        forms = record {
-          names = asked.forms.names;
-          two = two_bodies asked.forms.two;
-          named = asked.forms.named;
-          bound = bound_pushed room_here (asked.forms.named x (omega arith)) (asked.forms.named y (omega arith)) asked.forms.bound;
-        };
-        room = simp length-set (omega (arith, asked.room));
+        names = asked.names;
+        two = two_bodies asked.two;
+        named = asked.named;
+        bound = (asked.named x (omega arith), asked.named y (omega arith), asked.bound);
       }
 
-module _ (pairs text : List ℕ) (memory : List Pair) (depth : ℕ) (code : List ℕ) (i j : ℕ) {t u : ℕ} {same : Bool}
+module _ (pairs text : List ℕ) (above : List Pair) (code : List ℕ) (i j : ℕ) {t u : ℕ} {same : Bool}
     (fronts : get_or code i 0 ≡ get_or code j 0) (t-at : t ≡ number_at code (i + 3)) (u-at : u ≡ number_at code (j + 3))
     (named : same ≡ eq_name (marked pairs text t) (marked pairs text u)) where
   -- with one byte in front the quantifiers are equal
   scope_outcome : {names : ℕ} (two : Two (form_coding of_scope) code i j names)
-      → alpha_eq_scope_in pairs text memory depth two.left.value two.right.value
+      → alpha_eq_scope_in pairs text above two.left.value two.right.value
       ≡ and_also (accepted same)
       (alpha_eq_under (rename_prop (marked pairs text) two.left.value.body)
       (record { left = marked pairs text two.left.value.object; right = marked pairs text two.right.value.object }
-      ∷ bindings_of (marked pairs text) memory depth)
+      ∷ bindings_of (marked pairs text) above)
       (rename_prop (marked pairs text) two.right.value.body))
   unfolding alpha_eq_scope_in alpha_eq_scope and_also as_quantified rename_prop eq_quantifier
   scope_outcome two =
@@ -94,20 +84,19 @@ module _ (pairs text : List ℕ) (memory : List Pair) (depth : ℕ) (code : List
       )
 
   -- different datatypes: no
-  pub other_datatype : same ≡ false → Answers (form_coding of_scope) code i j (alpha_eq_scope_in pairs text memory depth) (Ok None)
+  pub other_datatype : same ≡ false → Answers (form_coding of_scope) code i j (alpha_eq_scope_in pairs text above) (Ok None)
   unfolding compared and_also no
   other_datatype e = record { answer = λ names two. rw (scope_outcome two, e) }
 
   -- else the bodies decide
-  pub bodies_decide : {x y : ℕ} {r : Compared} → depth + 1 ≤ length memory → same ≡ true
-      → x ≡ number_at code (i + 1) → y ≡ number_at code (j + 1)
-      → Answers proposition_coding code (i + 5) (j + 5) (alpha_eq_under_in pairs text (pushed memory depth x y) (depth + 1)) r
-      → Answers (form_coding of_scope) code i j (alpha_eq_scope_in pairs text memory depth) r
-  unfolding alpha_eq_under_in and_also
-  bodies_decide {x} {y} room e x-at y-at bodies = record {
+  pub bodies_decide : {x y : ℕ} {r : Compared} → same ≡ true → x ≡ number_at code (i + 1) → y ≡ number_at code (j + 1)
+      → Answers proposition_coding code (i + 5) (j + 5) (alpha_eq_under_in pairs text (record { left = x; right = y } ∷ above)) r
+      → Answers (form_coding of_scope) code i j (alpha_eq_scope_in pairs text above) r
+  unfolding alpha_eq_under_in and_also bindings_of binding_of
+  bodies_decide {x} {y} e x-at y-at bodies = record {
     answer = λ names two.
         let left-object : two.left.value.object ≡ x = sym (x-at ∙ (scope_at two.left).object) in
         let right-object : two.right.value.object ≡ y = sym (y-at ∙ (scope_at two.right).object) in
         rw (scope_outcome two, e, ← scope_end two.left, ← scope_end two.right, left-object, right-object)
-        (rw (bindings_pushed (marked pairs text) memory depth x y room) at (bodies.answer names (two_bodies two)));
+        (bodies.answer names (two_bodies two));
   }

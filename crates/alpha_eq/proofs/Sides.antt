@@ -6,18 +6,15 @@ use mathlib.Core.List.{List, ◌++◌, append_assoc}
 use native.Mathlib.Omega.{arith}
 use lib.ListN.{length, drop, get_or, length-append}
 use borrow.Author.Tests.{eq-eqb}
-use Rattle.definitions.specs.Sheet.{marked}
-use Rattle.definitions.specs.Prop.{Sides, connective_byte, eq_connective, as_binary, rename_prop, nesting}
+use Rattle.definitions.specs.Prop.{Sides, connective_byte, eq_connective, as_binary, rename_prop}
 use Rattle.definitions.specs.Code.{encode, Codable}
 use Rattle.definitions.specs.Comparison.{and_also, alpha_eq_sides}
 use Rattle.prefix_code.specs.Scan.{Stands, proposition_coding}
 use Rattle.prefix_code.proofs.Positions.{after, byte_at}
 use Rattle.alpha_eq.specs.declared.Pair.{Pair}
-use Rattle.alpha_eq.specs.Bindings.{Kept}
-use Rattle.alpha_eq.specs.Comparing.{Compared, alpha_eq_under_in, alpha_eq_sides_in, of_sides, form_coding, Standing, end_of, Two, Answers, WithRoom}
+use Rattle.alpha_eq.specs.Comparing.{Compared, alpha_eq_under_in, alpha_eq_sides_in, of_sides, form_coding, Standing, end_of, Two, Comparable, Answers}
 use Rattle.alpha_eq.proofs.Outcomes.{Stops, yes_ends, stopped, followed}
 use Rattle.alpha_eq.proofs.Standing.{moved}
-use Rattle.alpha_eq.proofs.Bindings.{bindings_same, bound_kept}
 
 -- the byte in front of a proposition of two sides, and where the sides stand
 record SidesAt (names : ℕ) (code : List ℕ) (at : ℕ) (a : Sides ℕ) : Type 0 where
@@ -64,72 +61,52 @@ module _ {names : ℕ} {code : List ℕ} {i j : ℕ} (two : Two (form_coding of_
   two_rights at_left at_right = record { left = moved at_left (right_side two.left); right = moved at_right (right_side two.right) }
 
   -- with one byte in front the connectives are equal
-  sides_outcome : (pairs text : List ℕ) (memory : List Pair) (depth : ℕ) → get_or code i 0 ≡ get_or code j 0
-      → alpha_eq_sides_in pairs text memory depth two.left.value two.right.value
-      ≡ and_also (alpha_eq_under_in pairs text memory depth two.left.value.left two.right.value.left)
-      (alpha_eq_under_in pairs text memory depth two.left.value.right two.right.value.right)
+  sides_outcome : (pairs text : List ℕ) (above : List Pair) → get_or code i 0 ≡ get_or code j 0
+      → alpha_eq_sides_in pairs text above two.left.value two.right.value
+      ≡ and_also (alpha_eq_under_in pairs text above two.left.value.left two.right.value.left)
+      (alpha_eq_under_in pairs text above two.left.value.right two.right.value.right)
   unfolding alpha_eq_sides_in alpha_eq_under_in alpha_eq_sides and_also as_binary rename_prop eq_connective
-  sides_outcome pairs text memory depth fronts =
+  sides_outcome pairs text above fronts =
       let l = sides_at two.left in
       let r = sides_at two.right in
       rw (eq-eqb (connective_byte two.left.value.connective) (connective_byte two.right.value.connective) (sym l.byte ∙ (fronts ∙ r.byte)))
 
 -- what the comparison of the left sides asks
-module _ {pairs text : List ℕ} {memory : List Pair} {depth : ℕ} {code : List ℕ} {i j : ℕ} (asked : WithRoom of_sides code i j pairs text memory depth) where
+module _ {pairs text : List ℕ} {above : List Pair} {code : List ℕ} {i j : ℕ} (asked : Comparable (form_coding of_sides) code i j pairs text above) where
   pub sides_inside : (i < length code) × (j < length code)
-  sides_inside = ((sides_at asked.forms.two.left).inside, (sides_at asked.forms.two.right).inside)
+  sides_inside = ((sides_at asked.two.left).inside, (sides_at asked.two.right).inside)
 
-  pub lefts_asked : WithRoom (λ p. p) code (i + 1) (j + 1) pairs text memory depth
-  unfolding nesting
-  lefts_asked = record {
-    forms = record {
-      names = asked.forms.names;
-      two = two_lefts asked.forms.two;
-      named = asked.forms.named;
-      bound = asked.forms.bound;
-    };
-    room = omega (arith, asked.room);
-  }
+  pub lefts_asked : Comparable proposition_coding code (i + 1) (j + 1) pairs text above
+  lefts_asked = record { names = asked.names; two = two_lefts asked.two; named = asked.named; bound = asked.bound }
 
   -- and, after a yes, that of the right ones
-  module _ {a b : ℕ} (lefts : Answers proposition_coding code (i + 1) (j + 1) (alpha_eq_under_in pairs text memory depth) (Ok (Some (a, b)))) where
+  module _ {a b : ℕ} (lefts : Answers proposition_coding code (i + 1) (j + 1) (alpha_eq_under_in pairs text above) (Ok (Some (a, b)))) where
     pub rights_after : i < a
-    rights_after = let at = yes_ends _ _ _ (lefts.answer asked.forms.names (two_lefts asked.forms.two)) in omega arith
+    rights_after = let at = yes_ends _ _ _ (lefts.answer asked.names (two_lefts asked.two)) in omega arith
 
-    pub rights_asked : {after : List Pair} → Kept depth memory after → length after ≡ length memory
-        → WithRoom (λ p. p) code a b pairs text after depth
-    unfolding nesting
-    rights_asked kept long =
-        let at = yes_ends _ _ _ (lefts.answer asked.forms.names (two_lefts asked.forms.two)) in
-        record {
-          forms = record {
-            names = asked.forms.names;
-            two = two_rights asked.forms.two at.1 at.2;
-            named = asked.forms.named;
-            bound = bound_kept kept (omega (arith, long, asked.forms.bound.present)) asked.forms.bound;
-          };
-          room = omega (arith, asked.room);
-        }
+    pub rights_asked : Comparable proposition_coding code a b pairs text above
+    rights_asked =
+        let at = yes_ends _ _ _ (lefts.answer asked.names (two_lefts asked.two)) in
+        record { names = asked.names; two = two_rights asked.two at.1 at.2; named = asked.named; bound = asked.bound }
 
-module _ (pairs text : List ℕ) (memory : List Pair) (depth : ℕ) (code : List ℕ) (i j : ℕ) (fronts : get_or code i 0 ≡ get_or code j 0) where
+module _ (pairs text : List ℕ) (above : List Pair) (code : List ℕ) (i j : ℕ) (fronts : get_or code i 0 ≡ get_or code j 0) where
   -- a no or a refusal of the left sides is the answer
-  pub lefts_stop : {r : Compared} → Answers proposition_coding code (i + 1) (j + 1) (alpha_eq_under_in pairs text memory depth) r → Stops r
-      → Answers (form_coding of_sides) code i j (alpha_eq_sides_in pairs text memory depth) r
+  pub lefts_stop : {r : Compared} → Answers proposition_coding code (i + 1) (j + 1) (alpha_eq_under_in pairs text above) r → Stops r
+      → Answers (form_coding of_sides) code i j (alpha_eq_sides_in pairs text above) r
   lefts_stop lefts s = record {
     answer = λ names two.
-        rw (sides_outcome two pairs text memory depth fronts) (stopped _ _ _ s (lefts.answer names (two_lefts two)) _ _ _);
+        rw (sides_outcome two pairs text above fronts) (stopped _ _ _ s (lefts.answer names (two_lefts two)) _ _ _);
   }
 
   -- after a yes the right sides decide
-  pub rights_decide : {a b : ℕ} {after : List Pair} {r : Compared}
-      → Answers proposition_coding code (i + 1) (j + 1) (alpha_eq_under_in pairs text memory depth) (Ok (Some (a, b))) → Kept depth memory after
-      → Answers proposition_coding code a b (alpha_eq_under_in pairs text after depth) r
-      → Answers (form_coding of_sides) code i j (alpha_eq_sides_in pairs text memory depth) r
-  unfolding alpha_eq_under_in
-  rights_decide {after} lefts kept rights = record {
+  pub rights_decide : {a b : ℕ} {r : Compared}
+      → Answers proposition_coding code (i + 1) (j + 1) (alpha_eq_under_in pairs text above) (Ok (Some (a, b)))
+      → Answers proposition_coding code a b (alpha_eq_under_in pairs text above) r
+      → Answers (form_coding of_sides) code i j (alpha_eq_sides_in pairs text above) r
+  rights_decide lefts rights = record {
     answer = λ names two.
         let (accepts, at_left, at_right) = yes_ends _ _ _ (lefts.answer names (two_lefts two)) in
-        rw (sides_outcome two pairs text memory depth fronts)
+        rw (sides_outcome two pairs text above fronts)
         (followed _ _ accepts (omega (arith, sides_end two.left)) (omega (arith, sides_end two.right))
-        (rw (bindings_same (marked pairs text) memory after depth kept) at (rights.answer names (two_rights two at_left at_right))));
+        (rights.answer names (two_rights two at_left at_right)));
   }

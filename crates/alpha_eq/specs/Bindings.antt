@@ -1,30 +1,31 @@
--- The bindings in lent memory: a pair of name numbers for each quantifier above, the latest last.
-use Rattle.std.specs.Prelude.{ℕ, zero, suc, ◌≤◌, ◌<◌, ◌≡◌, List, [], ◌∷◌, length, get_or}
+-- What the quantifiers above a place bind: a pair of name numbers for each, the latest first.
+use Rattle.std.specs.Prelude.{ℕ, ⊤, List, [], ◌∷◌}
 use Rattle.definitions.specs.Name.{Name}
 use Rattle.definitions.specs.Comparison.{Binding}
 use Rattle.identifier.specs.Pairs.{PairsWithin}
 use Rattle.alpha_eq.specs.declared.Pair.{Pair}
+use Rattle.alpha_eq.specs.declared.Binders.{Binders}
+use Rattle.alpha_eq.specs.declared.Binders.TheOpen.{Binders-F}
+use Rattle.alpha_eq.specs.declared.Binders.TheFolds.{fold-Binders}
 
--- the pair at a place
-abbrev pub pair_at : List Pair → ℕ → Pair
-pair_at memory k = get_or memory k (record { left = 0; right = 0 })
+-- the pairs of a chain, that of each frame before those of the frames above
+abbrev pub numbers_step : Binders-F (List Pair) → List Pair
+numbers_step Binders-F.Empty = []
+numbers_step (Binders-F.Latest pair earlier) = pair ∷ earlier.now
 
--- Of the bytes of each name and the lent memory:
-module _ (name_of : ℕ → Name) (memory : List Pair) where
-  unfoldable pub binding_at : ℕ → Binding
-  binding_at k = record { left = name_of (pair_at memory k).left; right = name_of (pair_at memory k).right }
+abbrev pub numbers : Binders → List Pair
+numbers = fold-Binders (List Pair) numbers_step
 
-  -- so many bindings, the latest first
-  unfoldable pub bindings_of : ℕ → List Binding
-  bindings_of zero = []
-  bindings_of (suc k) = binding_at k ∷ bindings_of k
+-- the pairs of names that they are
+module _ (name_of : ℕ → Name) where
+  unfoldable pub binding_of : Pair → Binding
+  binding_of p = record { left = name_of p.left; right = name_of p.right }
 
--- so many bindings are in the memory, and their numbers mark names of the text
-pub record Bound (pairs text : List ℕ) (memory : List Pair) (depth : ℕ) : Type 0 where
-  pub present : depth ≤ length memory
-  pub left : (k : ℕ) → k < depth → PairsWithin pairs text (pair_at memory k).left
-  pub right : (k : ℕ) → k < depth → PairsWithin pairs text (pair_at memory k).right
+  unfoldable pub bindings_of : List Pair → List Binding
+  bindings_of [] = []
+  bindings_of (p ∷ ps) = binding_of p ∷ bindings_of ps
 
--- so many bindings are as they were
-pub record Kept (depth : ℕ) (before after : List Pair) : Type 0 where
-  pub same : (k : ℕ) → k < depth → pair_at after k ≡ pair_at before k
+-- their numbers mark names of the text
+abbrev pub Bound : (pairs text : List ℕ) → List Pair → Type 0
+Bound pairs text [] = ⊤
+Bound pairs text (p ∷ ps) = PairsWithin pairs text p.left × PairsWithin pairs text p.right × Bound pairs text ps

@@ -11,7 +11,8 @@ use Rattle.identifier.specs.Pairs.{PairsWithin}
 use Rattle.definitions.specs.declared.Refusal.{Refusal}
 use Rattle.alpha_eq.specs.declared.Pair.{Pair}
 use Rattle.alpha_eq.specs.declared.NamedCode.{NamedCode}
-use Rattle.alpha_eq.specs.Bindings.{bindings_of, Bound}
+use Rattle.alpha_eq.specs.declared.Binders.{Binders}
+use Rattle.alpha_eq.specs.Bindings.{numbers, bindings_of, Bound}
 use Rattle.sheet.specs.Checks.{outcome_of}
 
 -- what the walk answers: where two codes end that are the same
@@ -41,13 +42,13 @@ form_coding make names = record { Fits = λ a. Codable names (make a); code = λ
 abbrev pub several_coding : ℕ → ℕ → Coding (List (PropParameter ℕ))
 several_coding count names = parameters_coding names count
 
--- The definitions' comparisons for things of a sheet: names are what the pairs mark in the text, and so many bindings are in memory.
-module _ (pairs text : List ℕ) (memory : List Pair) (depth : ℕ) where
+-- The definitions' comparisons for things of a sheet: names are what the pairs mark in the text, and the quantifiers above bind some.
+module _ (pairs text : List ℕ) (above : List Pair) where
   abbrev name_of : ℕ → Name
   name_of = marked pairs text
 
   abbrev bindings : List Binding
-  bindings = bindings_of name_of memory depth
+  bindings = bindings_of name_of above
 
   unfoldable pub bound_alike_in : ℕ → ℕ → Outcome Bool
   bound_alike_in x y = bound_alike bindings (name_of x) (name_of y)
@@ -96,34 +97,26 @@ module _ {A : Type 0} (coding : ℕ → Coding A) (code : List ℕ) (i j : ℕ) 
     pub right : Standing coding names code j
 
   -- two are there; their names and those of the bindings lie in the text
-  pub record Comparable (pairs text : List ℕ) (memory : List Pair) (depth : ℕ) : Type 0 where
+  pub record Comparable (pairs text : List ℕ) (above : List Pair) : Type 0 where
     pub names : ℕ
     pub two : Two names
     pub named : (n : ℕ) → n < names → PairsWithin pairs text n
-    pub bound : Bound pairs text memory depth
+    pub bound : Bound pairs text above
 
   -- `r` answers the outcome of whatever two are there
   pub record Answers (outcome : A → A → Outcome Bool) (r : Compared) : Type 0 where
     pub answer : (names : ℕ) (two : Two names)
         → r ≡ compared (outcome two.left.value two.right.value) (end_of two.left) (end_of two.right)
 
--- two propositions of a form, with room in memory for the bindings of the left one's quantifiers
-pub record WithRoom {A : Type 0} (make : A → Prop ℕ) (code : List ℕ) (i j : ℕ) (pairs text : List ℕ) (memory : List Pair) (depth : ℕ) : Type 0 where
-  pub forms : Comparable (form_coding make) code i j pairs text memory depth
-  pub room : depth + nesting (make forms.two.left.value) ≤ length memory
-
--- The same of code with its names.
+-- The same of code with its names, below a chain of bindings.
 module _ {A : Type 0} (coding : ℕ → Coding A) (named : NamedCode) (i j : ℕ) where
-  abbrev pub ComparableIn : List Pair → ℕ → Type 0
-  ComparableIn memory depth = Comparable coding named.code.now i j named.names.pairs.now named.names.bytes.now memory depth
+  abbrev pub ComparableIn : Binders → Type 0
+  ComparableIn bindings = Comparable coding named.code.now i j named.names.pairs.now named.names.bytes.now (numbers bindings)
 
-  abbrev pub AnswersIn : (List ℕ → List ℕ → List Pair → ℕ → A → A → Outcome Bool) → List Pair → ℕ → Compared → Type 0
-  AnswersIn outcome memory depth r = Answers coding named.code.now i j (outcome named.names.pairs.now named.names.bytes.now memory depth) r
+  abbrev pub AnswersIn : (List ℕ → List ℕ → List Pair → A → A → Outcome Bool) → Binders → Compared → Type 0
+  AnswersIn outcome bindings r = Answers coding named.code.now i j (outcome named.names.pairs.now named.names.bytes.now (numbers bindings)) r
 
-abbrev pub WithRoomIn : {A : Type 0} → (A → Prop ℕ) → NamedCode → ℕ → ℕ → List Pair → ℕ → Type 0
-WithRoomIn make named i j memory depth = WithRoom make named.code.now i j named.names.pairs.now named.names.bytes.now memory depth
-
--- two propositions, the left one nesting no deeper than those of a sheet do, whose names lie in the text
+-- two propositions whose names lie in the text; the left one nests no deeper than those of a sheet do, and so does the walk
 pub record TwoPropositions (code : List ℕ) (i j : ℕ) (pairs text : List ℕ) : Type 0 where
   pub names : ℕ
   pub two : Two proposition_coding code i j names

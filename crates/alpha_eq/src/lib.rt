@@ -3,19 +3,18 @@
 // atoms of one name with different parameter counts are a no, and two unbound parameters refusal 19.
 #![tactic(auto)]
 
-ghost use Rattle.std.specs.Prelude.{◌≡◌, ◌≤◌, ◌<◌, ◌+◌, get_or, length};
+ghost use Rattle.std.specs.Prelude.{◌≡◌, ◌≤◌, ◌+◌, get_or, length};
 ghost use Rattle.definitions.specs.Sheet.{marked};
 ghost use Rattle.number.specs.Pairs.{NameWithin};
 ghost use Rattle.prefix_code.specs.Scan.{proposition_coding, parameter_coding};
-ghost use Rattle.alpha_eq.specs.Bindings.{Bound, Kept};
-ghost use Rattle.alpha_eq.specs.Comparing.{of_sides, of_applied, of_scope, form_coding, several_coding, bound_alike_in, alpha_eq_parameter_in, alpha_eq_parameters_in, alpha_eq_atom_in, alpha_eq_under_in, alpha_eq_sides_in, alpha_eq_scope_in, ComparableIn, AnswersIn, WithRoomIn, TwoPropositions, Decides};
+ghost use Rattle.alpha_eq.specs.Bindings.{numbers, Bound};
+ghost use Rattle.alpha_eq.specs.Comparing.{of_sides, of_applied, of_scope, form_coding, several_coding, bound_alike_in, alpha_eq_parameter_in, alpha_eq_parameters_in, alpha_eq_atom_in, alpha_eq_under_in, alpha_eq_sides_in, alpha_eq_scope_in, ComparableIn, AnswersIn, TwoPropositions, Decides};
 ghost use Rattle.sheet.specs.Checks.{outcome_of};
 
 use definitions::{Reason, Refusal};
 use identifier::same_bytes;
 use number::{Marked, number_at};
 use prefix_code::{Head, ParameterKind};
-use sheet::Sheet;
 
 // What the walk over two codes answers: where both end if they are the same, nothing if they are not, or a refusal.
 pub type Compared = Result<Option<(usize, usize)>, Refusal>;
@@ -23,8 +22,16 @@ pub type Compared = Result<Option<(usize, usize)>, Refusal>;
 // The objects of two quantifiers that bind each other, by the numbers of their names: the left proposition's and the right one's.
 #[derive(Clone, Copy)]
 pub struct Pair {
-    pub left: u16,
-    pub right: u16,
+    pub left: usize,
+    pub right: usize,
+}
+
+// What the quantifiers above two propositions bind, the latest first: each pair lies in the frame of the walk that goes below its two
+// quantifiers, so that it is there for as long as the walk is below them.
+#[derive(Clone, Copy)]
+enum Binders<'a> {
+    Empty,
+    Latest(Pair, &'a Binders<'a>),
 }
 
 // The code of two propositions, with the names that it has by their numbers. What is asked and answered of it is
@@ -36,27 +43,28 @@ struct NamedCode<'a> {
 }
 
 // Two uninstantiated parameters, by the latest binding that has either: 19 where there is none.
-fn bound_alike(bindings: &[Pair], names: Marked, x: usize, y: usize) -> Result<bool, Refusal>
-    requires bound { Bound names.pairs.now names.bytes.now bindings.now (length bindings.now) }
+fn bound_alike(bindings: &Binders, names: Marked, x: usize, y: usize) -> Result<bool, Refusal>
+    requires bound { Bound names.pairs.now names.bytes.now (numbers bindings.now) }
     requires name_within { NameWithin names.pairs.now names.bytes.now x × NameWithin names.pairs.now names.bytes.now y }
-    ensures { outcome_of result
-        ≡ bound_alike_in names.entry.pairs.now names.entry.bytes.now bindings.now (length bindings.now) x y }
+    ensures { outcome_of result ≡ bound_alike_in names.entry.pairs.now names.entry.bytes.now (numbers bindings.now) x y }
 {
-    for &Pair { left, right } in bindings.iter().rev() {
-        let binds_x = same_bytes(names, usize::from(left), x);
-        let binds_y = same_bytes(names, usize::from(right), y);
+    let mut rest = bindings;
+    while let Binders::Latest(pair, earlier) = rest {
+        let binds_x = same_bytes(names, pair.left, x);
+        let binds_y = same_bytes(names, pair.right, y);
         if binds_x || binds_y {
             return Ok(binds_x && binds_y);
         }
+        rest = earlier;
     }
     Err(Reason::UnboundParameter.at(0))
 }
 
 // The parameters at i and j.
-fn alpha_eq_parameter(named: &NamedCode, i: usize, j: usize, bindings: &[Pair]) -> Compared
-    requires comparable { ComparableIn parameter_coding named.now i j bindings.now (length bindings.now) }
+fn alpha_eq_parameter(named: &NamedCode, i: usize, j: usize, bindings: &Binders) -> Compared
+    requires comparable { ComparableIn parameter_coding named.now i j bindings.now }
     requires inside { (i + 3 ≤ length named.now.code.now) × (j + 3 ≤ length named.now.code.now) }
-    ensures { AnswersIn parameter_coding named.now i j alpha_eq_parameter_in bindings.now (length bindings.now) result }
+    ensures { AnswersIn parameter_coding named.now i j alpha_eq_parameter_in bindings.now result }
 {
     let byte = named.code[i];
     if byte != named.code[j] {
@@ -87,10 +95,10 @@ fn alpha_eq_parameters(
     i: usize,
     j: usize,
     count: usize,
-    bindings: &[Pair],
+    bindings: &Binders,
 ) -> Compared
-    requires { ComparableIn (several_coding count) named.now i j bindings.now (length bindings.now) }
-    ensures { AnswersIn (several_coding count) named.now i j alpha_eq_parameters_in bindings.now (length bindings.now) result }
+    requires { ComparableIn (several_coding count) named.now i j bindings.now }
+    ensures { AnswersIn (several_coding count) named.now i j alpha_eq_parameters_in bindings.now result }
 {
     let mut left = i;
     let mut right = j;
@@ -110,10 +118,10 @@ fn alpha_eq_parameters(
 // numbers in place of i and j, of which the contracts speak. It also reads what stands behind two bytes that differ already.
 
 // The atoms at i and j: names, then parameter counts, then parameters.
-fn alpha_eq_atom(named: &NamedCode, i: usize, j: usize, bindings: &[Pair]) -> Compared
-    requires comparable { ComparableIn (form_coding of_applied) named.now i j bindings.now (length bindings.now) }
+fn alpha_eq_atom(named: &NamedCode, i: usize, j: usize, bindings: &Binders) -> Compared
+    requires comparable { ComparableIn (form_coding of_applied) named.now i j bindings.now }
     requires inside { (i + 4 ≤ length named.now.code.now) × (j + 4 ≤ length named.now.code.now) }
-    ensures { AnswersIn (form_coding of_applied) named.now i j alpha_eq_atom_in bindings.now (length bindings.now) result }
+    ensures { AnswersIn (form_coding of_applied) named.now i j alpha_eq_atom_in bindings.now result }
 {
     let a = number_at(named.code, i + 1);
     let b = number_at(named.code, j + 1);
@@ -129,69 +137,45 @@ fn alpha_eq_atom(named: &NamedCode, i: usize, j: usize, bindings: &[Pair]) -> Co
     alpha_eq_parameters(named, i + 4, j + 4, usize::from(count), bindings)
 }
 
-// Below, the bindings fill the memory `bindings` up to `depth`: memory of fixed size has no push, as prop_frames says.
-
 // The propositions of one connective at i and j: the left sides, and after a yes the right ones.
 #[cycle(alpha_eq_scope_alpha_eq_sides_alpha_eq_under)]
-fn alpha_eq_sides(
-    named: &NamedCode,
-    i: usize,
-    j: usize,
-    bindings: &mut [Pair],
-    depth: usize,
-) -> Compared
-    requires with_room { WithRoomIn of_sides named.now i j bindings.old depth }
+fn alpha_eq_sides<'a>(named: &NamedCode, i: usize, j: usize, bindings: &'a Binders<'a>) -> Compared
+    requires comparable { ComparableIn (form_coding of_sides) named.now i j bindings.now }
     requires i_value { get_or named.now.code.now i 0 ≡ get_or named.now.code.now j 0 }
-    ensures answers { AnswersIn (form_coding of_sides) named.now i j alpha_eq_sides_in bindings.old depth result }
-    ensures kept { Kept depth bindings.old bindings.new }
+    ensures { AnswersIn (form_coding of_sides) named.now i j alpha_eq_sides_in bindings.now result }
 {
-    let left = alpha_eq_under(named, i + 1, j + 1, bindings, depth)?;
+    let left = alpha_eq_under(named, i + 1, j + 1, bindings)?;
     let Some((i_end, j_end)) = left else {
         return Ok(None);
     };
-    alpha_eq_under(named, i_end, j_end, bindings, depth)
+    alpha_eq_under(named, i_end, j_end, bindings)
 }
 
 // The propositions of one quantifier at i and j: datatypes, then the bodies with the objects bound to each other.
 #[cycle(alpha_eq_scope_alpha_eq_sides_alpha_eq_under)]
-fn alpha_eq_scope(
-    named: &NamedCode,
-    i: usize,
-    j: usize,
-    bindings: &mut [Pair],
-    depth: usize,
-) -> Compared
-    requires with_room { WithRoomIn of_scope named.now i j bindings.old depth }
+fn alpha_eq_scope<'a>(named: &NamedCode, i: usize, j: usize, bindings: &'a Binders<'a>) -> Compared
+    requires comparable { ComparableIn (form_coding of_scope) named.now i j bindings.now }
     requires i_value { get_or named.now.code.now i 0 ≡ get_or named.now.code.now j 0 }
     requires inside { (i + 5 ≤ length named.now.code.now) × (j + 5 ≤ length named.now.code.now) }
-    requires room { depth < length bindings.old }
-    ensures answers { AnswersIn (form_coding of_scope) named.now i j alpha_eq_scope_in bindings.old depth result }
-    ensures kept { Kept depth bindings.old bindings.new }
+    ensures { AnswersIn (form_coding of_scope) named.now i j alpha_eq_scope_in bindings.now result }
 {
     let t = number_at(named.code, i + 3);
     let u = number_at(named.code, j + 3);
     if !same_bytes(named.names, t, u) {
         return Ok(None);
     }
-    bindings[depth] = Pair {
-        left: number_at(named.code, i + 1) as u16,
-        right: number_at(named.code, j + 1) as u16,
+    let objects = Pair {
+        left: number_at(named.code, i + 1),
+        right: number_at(named.code, j + 1),
     };
-    alpha_eq_under(named, i + 5, j + 5, bindings, depth + 1)
+    alpha_eq_under(named, i + 5, j + 5, &Binders::Latest(objects, bindings))
 }
 
-// The propositions at i and j under so many bindings, by the head that stands in front of both.
+// The propositions at i and j under some bindings, by the head that stands in front of both.
 #[cycle(alpha_eq_scope_alpha_eq_sides_alpha_eq_under)]
-fn alpha_eq_under(
-    named: &NamedCode,
-    i: usize,
-    j: usize,
-    bindings: &mut [Pair],
-    depth: usize,
-) -> Compared
-    requires { WithRoomIn (λ p. p) named.now i j bindings.old depth }
-    ensures answers { AnswersIn proposition_coding named.now i j alpha_eq_under_in bindings.old depth result }
-    ensures kept { Kept depth bindings.old bindings.new }
+fn alpha_eq_under<'a>(named: &NamedCode, i: usize, j: usize, bindings: &'a Binders<'a>) -> Compared
+    requires { ComparableIn proposition_coding named.now i j bindings.now }
+    ensures { AnswersIn proposition_coding named.now i j alpha_eq_under_in bindings.now result }
 {
     let front = named.code[i];
     if front != named.code[j] {
@@ -199,23 +183,18 @@ fn alpha_eq_under(
     }
     match Head::of_known(front) {
         Head::True | Head::False => Ok(Some((i + 1, j + 1))),
-        Head::Binary(_) => alpha_eq_sides(named, i, j, bindings, depth),
-        Head::Atom => alpha_eq_atom(named, i, j, &bindings[..depth]),
-        Head::Quantified(_) => alpha_eq_scope(named, i, j, bindings, depth),
+        Head::Binary(_) => alpha_eq_sides(named, i, j, bindings),
+        Head::Atom => alpha_eq_atom(named, i, j, bindings),
+        Head::Quantified(_) => alpha_eq_scope(named, i, j, bindings),
     }
 }
 
-// One for each quantifier above a place: as many as a proposition nests deep.
-const BINDINGS: usize = Sheet::PROPOSITION_NESTING_LIMIT;
-
 // Are the propositions at i and j the same up to the names of their bound objects?
-pub fn alpha_eq(code: &[u8], i: usize, j: usize, pairs: &[u8], text: &[u8]) -> Result<bool, Refusal>
-    requires { TwoPropositions code.now i j pairs.now text.now }
-    ensures { Decides code.now i j (marked pairs.now text.now) result }
+pub fn alpha_eq(code: &[u8], i: usize, j: usize, names: Marked) -> Result<bool, Refusal>
+    requires { TwoPropositions code.now i j names.pairs.now names.bytes.now }
+    ensures { Decides code.now i j (marked names.entry.pairs.now names.entry.bytes.now) result }
 {
-    let names = Marked { pairs, bytes: text };
     let named = NamedCode { code, names };
-    let mut bindings = [Pair { left: 0, right: 0 }; BINDINGS];
-    let ends = alpha_eq_under(&named, i, j, &mut bindings, 0)?;
+    let ends = alpha_eq_under(&named, i, j, &Binders::Empty)?;
     Ok(ends.is_some())
 }

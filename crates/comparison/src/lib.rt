@@ -4,9 +4,10 @@
 
 ghost use Rattle.std.specs.Prelude.{◌≡◌, ◌<◌};
 ghost use Rattle.definitions.specs.Name.{eq_name};
-ghost use Rattle.definitions.specs.Sheet.{names, propositions, name_of};
+ghost use Rattle.definitions.specs.Sheet.{names, propositions, name_pairs, text_bytes, name_of};
 ghost use Rattle.definitions.specs.Comparison.{alpha_eq};
 ghost use Rattle.definitions.specs.Answers.{comparison};
+ghost use Rattle.sheet.specs.Admitted.{Accepted};
 ghost use Rattle.sheet.specs.Checks.{outcome_of};
 ghost use Rattle.comparison.specs.Conclusions.{named_prop, JudgementIn, ConclusionIn, judgement_eq, conclusion_comparison};
 
@@ -16,17 +17,25 @@ use number::{Marked, pair_offset};
 use sheet::AdmittedSheet;
 use steps::{Conclusion, Judgement, step_at};
 
+// The names of a sheet.
+fn names_of<'a>(sheet: &AdmittedSheet<'a>) -> Marked<'a>
+    ensures pairs { result.pairs.now ≡ name_pairs sheet.now }
+    ensures text { result.bytes.now ≡ text_bytes sheet.now }
+    ensures accepted { Accepted sheet.now }
+{
+    Marked {
+        pairs: sheet.name_pairs(),
+        bytes: sheet.text_bytes(),
+    }
+}
+
 // Whether the names of two numbers have the same bytes: equal numbers are answered without a look at these, which two vocabularies
 // could not tell.
 fn same_named(sheet: &AdmittedSheet, a: u16, b: u16) -> bool
     requires { (a < names sheet.now) × (b < names sheet.now) }
     ensures { result ≡ eq_name (name_of sheet.now a) (name_of sheet.now b) }
 {
-    let names = Marked {
-        pairs: sheet.name_pairs(),
-        bytes: sheet.text_bytes(),
-    };
-    same_bytes(names, a as usize, b as usize)
+    same_bytes(names_of(sheet), a as usize, b as usize)
 }
 
 // Two type judgements: the names of the objects, by their bytes, their ids, the names of the datatypes. Those of two sheets are
@@ -47,13 +56,7 @@ fn compare_propositions(sheet: &AdmittedSheet, p: u16, q: u16) -> Result<bool, R
     let pairs = sheet.proposition_pairs();
     let i = pair_offset(pairs, p as usize);
     let j = pair_offset(pairs, q as usize);
-    alpha_eq::alpha_eq(
-        sheet.code_bytes(),
-        i,
-        j,
-        sheet.name_pairs(),
-        sheet.text_bytes(),
-    )
+    alpha_eq::alpha_eq(sheet.code_bytes(), i, j, names_of(sheet))
 }
 
 // Two conclusions, be they those of steps or not: a proposition and a type judgement are a no. A comparison of propositions up to the

@@ -1,5 +1,4 @@
--- The calls end by the bytes of the code from i on: a form's function calls on parts of it, which start later. Where two
--- calls follow each other, the second finds the bindings as the first found them.
+-- The calls end by the bytes of the code from i on: a form's function calls on parts of it, which start later.
 use Prim.Native.Nat.{◌+◌, ◌-◌, ◌*◌}
 use lib.ListN.{length}
 use Rattle.alpha_eq.proofs.+alpha_eq_scope_alpha_eq_sides_alpha_eq_under.Given as goal

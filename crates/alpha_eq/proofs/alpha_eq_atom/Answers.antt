@@ -13,12 +13,12 @@ same_bytes-same_atom-requires c =
 
 pub returns-then-not-same_atom : goal.returns-then-not-same_atom
 returns-then-not-same_atom c =
-    other_name _ _ _ _ _ _ _ c.number_at-a.ensures.0 c.number_at-b.ensures.0
+    other_name _ _ _ _ _ _ c.number_at-a.ensures.0 c.number_at-b.ensures.0
     c.same_bytes-same_atom.ensures c.if-not-same_atom.true
 
 pub returns-then-count-other_count : goal.returns-then-count-other_count
 returns-then-count-other_count c =
-    other_count _ _ _ _ _ _ _ c.number_at-a.ensures.0 c.number_at-b.ensures.0
+    other_count _ _ _ _ _ _ c.number_at-a.ensures.0 c.number_at-b.ensures.0
     c.same_bytes-same_atom.ensures c.if-not-same_atom.false c.if-count-other_count.true
 
 pub alpha_eq_parameters-requires : goal.alpha_eq_parameters-requires
@@ -28,6 +28,6 @@ alpha_eq_parameters-requires c =
 
 pub returns : goal.returns
 returns c =
-    by_parameters _ _ _ _ _ _ _ c.number_at-a.ensures.0 c.number_at-b.ensures.0
+    by_parameters _ _ _ _ _ _ c.number_at-a.ensures.0 c.number_at-b.ensures.0
     c.same_bytes-same_atom.ensures c.if-not-same_atom.false c.if-count-other_count.false
     (rw c.from.ensures at c.alpha_eq_parameters.ensures)

@@ -45,12 +45,12 @@ pub returns-in_err-same-in-Uninstantiated : goal.returns-in_err-same-in-Uninstan
 unfolding compared
 returns-in_err-same-in-Uninstantiated c =
     let zero = bound (goal.at.returns-in_err-same-in-Uninstantiated c).In-Uninstantiated in
-    uninstantiated_both _ _ _ _ _ _ _ zero (omega (arith, zero, c.if-byte-named.false)) c.number_at-x.ensures.0 c.number_at-y.ensures.0 c.in_err-same-in-Uninstantiated.ensures (search rules)
+    uninstantiated_both _ _ _ _ _ _ zero (omega (arith, zero, c.if-byte-named.false)) c.number_at-x.ensures.0 c.number_at-y.ensures.0 c.in_err-same-in-Uninstantiated.ensures (search rules)
 
 pub returns-in_ok-same-in-Uninstantiated : goal.returns-in_ok-same-in-Uninstantiated
 returns-in_ok-same-in-Uninstantiated c =
     let zero = bound (goal.at.returns-in_ok-same-in-Uninstantiated c).In-Uninstantiated in
-    uninstantiated_both _ _ _ _ _ _ _ zero (omega (arith, zero, c.if-byte-named.false)) c.number_at-x.ensures.0 c.number_at-y.ensures.0 c.in_ok-same-in-Uninstantiated.ensures
+    uninstantiated_both _ _ _ _ _ _ zero (omega (arith, zero, c.if-byte-named.false)) c.number_at-x.ensures.0 c.number_at-y.ensures.0 c.in_ok-same-in-Uninstantiated.ensures
     (rw (c.then_some.ensures, c.size-size.ensures ∙ ap kind_size (goal.at.returns-in_ok-same-in-Uninstantiated c).In-Uninstantiated.in-Uninstantiated.is) (tested _ _ _))
 
 pub same_bytes-same_object-requires : goal.same_bytes-same_object-requires
@@ -58,7 +58,7 @@ same_bytes-same_object-requires c =
     names_within c.requires.comparable c.number_at-x.ensures.0 c.number_at-y.ensures.0
 
 pub returns-then-byte-named : goal.returns-then-byte-named
-returns-then-byte-named c = other_kind _ _ _ _ _ _ _ c.if-byte-named.true
+returns-then-byte-named c = other_kind _ _ _ _ _ _ c.if-byte-named.true
 
 pub number_at-id-requires : goal.number_at-id-requires
 number_at-id-requires c = omega (arith, left_id (goal.at.number_at-id-requires c).In-Instantiated)
@@ -72,7 +72,7 @@ of_known-kind-requires c = omega (arith, (parameter_at c.requires.comparable.two
 pub returns-after-same_object : goal.returns-after-same_object
 returns-after-same_object c =
     let here = (goal.at.returns-after-same_object c).In-Instantiated in
-    instantiated_both _ _ _ _ _ _ _ (left_kind here) (right_kind here) c.number_at-x.ensures.0 c.number_at-y.ensures.0
+    instantiated_both _ _ _ _ _ _ (left_kind here) (right_kind here) c.number_at-x.ensures.0 c.number_at-y.ensures.0
     c.number_at-id.ensures.0 c.number_at-other_id.ensures.0 c.same_bytes-same_object.ensures
     (rw (c.then_some-in-Instantiated.ensures, alike (goal.at.returns-after-same_object c).After-then_some-in-Instantiated, c.size-size.ensures ∙ ap kind_size here.in-Instantiated.is) (tested _ _ _))
 

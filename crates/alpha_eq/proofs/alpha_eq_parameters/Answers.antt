@@ -8,7 +8,7 @@ use Rattle.alpha_eq.proofs.Parameters.{all_left, first_asked, parameters_inside,
 use Rattle.alpha_eq.proofs.alpha_eq_parameters.Goals as goal
 
 pub loop-init : goal.loop-init
-loop-init c = all_left _ _ _ _ c.requires
+loop-init c = all_left _ _ _ c.requires
 
 pub alpha_eq_parameter-requires : goal.alpha_eq_parameter-requires
 alpha_eq_parameter-requires c = let first = first_asked c.loop.invariant (omega (arith, c.loop-test.true)) in

@@ -12,10 +12,10 @@ pair_offset-j-requires c =
 
 pub alpha_eq-requires : goal.alpha_eq-requires
 alpha_eq-requires c =
-    rw (c.pair_offset-i.ensures, c.pair_offset-j.ensures, c.proposition_pairs-pairs.ensures.is, c.code_bytes.ensures.is, c.name_pairs.ensures.is, c.text_bytes.ensures.is)
+    rw (c.pair_offset-i.ensures, c.pair_offset-j.ensures, c.proposition_pairs-pairs.ensures.is, c.code_bytes.ensures.is, c.names_of.ensures.pairs, c.names_of.ensures.text)
     (two_admitted c.code_bytes.ensures.accepted c.requires.0 c.requires.1)
 
 pub returns : goal.returns
 returns c =
     two_decided c.code_bytes.ensures.accepted c.requires.0 c.requires.1
-    (rw (c.pair_offset-i.ensures, c.pair_offset-j.ensures, c.proposition_pairs-pairs.ensures.is, c.code_bytes.ensures.is, c.name_pairs.ensures.is, c.text_bytes.ensures.is) at c.alpha_eq.ensures)
+    (rw (c.pair_offset-i.ensures, c.pair_offset-j.ensures, c.proposition_pairs-pairs.ensures.is, c.code_bytes.ensures.is, c.names_of.ensures.pairs, c.names_of.ensures.text) at c.alpha_eq.ensures)

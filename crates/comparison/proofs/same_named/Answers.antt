@@ -5,10 +5,10 @@ use Rattle.comparison.proofs.same_named.Goals as goal
 
 pub same_bytes-requires : goal.same_bytes-requires
 same_bytes-requires c =
-    let sheet = c.name_pairs.ensures.accepted.sheet in
-    rw (c.name_pairs.ensures.is, c.text_bytes.ensures.is)
+    let sheet = c.names_of.ensures.accepted.sheet in
+    rw (c.names_of.ensures.pairs, c.names_of.ensures.text)
     (name_within sheet _ c.requires.0, name_within sheet _ c.requires.1)
 
 pub returns : goal.returns
 unfolding name_of
-returns c = rw (c.name_pairs.ensures.is, c.text_bytes.ensures.is) at c.same_bytes.ensures
+returns c = rw (c.names_of.ensures.pairs, c.names_of.ensures.text) at c.same_bytes.ensures
