@@ -4,30 +4,17 @@
 
 ghost use Rattle.std.specs.Prelude.{◌≡◌, ◌<◌};
 ghost use Rattle.definitions.specs.Name.{eq_name};
-ghost use Rattle.definitions.specs.Sheet.{names, propositions, name_pairs, text_bytes, name_of};
+ghost use Rattle.definitions.specs.Sheet.{names, propositions, name_of};
 ghost use Rattle.definitions.specs.Comparison.{alpha_eq};
 ghost use Rattle.definitions.specs.Answers.{comparison};
-ghost use Rattle.sheet.specs.Admitted.{Accepted};
 ghost use Rattle.sheet.specs.Checks.{outcome_of};
 ghost use Rattle.comparison.specs.Conclusions.{named_prop, JudgementIn, ConclusionIn, judgement_eq, conclusion_comparison};
 
 use definitions::{Reason, Refusal};
 use identifier::same_bytes;
-use number::{Marked, pair_offset};
+use number::pair_offset;
 use sheet::AdmittedSheet;
 use steps::{Conclusion, Judgement, step_at};
-
-// The names of a sheet.
-fn names_of<'a>(sheet: &AdmittedSheet<'a>) -> Marked<'a>
-    ensures pairs { result.pairs.now ≡ name_pairs sheet.now }
-    ensures text { result.bytes.now ≡ text_bytes sheet.now }
-    ensures accepted { Accepted sheet.now }
-{
-    Marked {
-        pairs: sheet.name_pairs(),
-        bytes: sheet.text_bytes(),
-    }
-}
 
 // Whether the names of two numbers have the same bytes: equal numbers are answered without a look at these, which two vocabularies
 // could not tell.
@@ -35,7 +22,7 @@ fn same_named(sheet: &AdmittedSheet, a: u16, b: u16) -> bool
     requires { (a < names sheet.now) × (b < names sheet.now) }
     ensures { result ≡ eq_name (name_of sheet.now a) (name_of sheet.now b) }
 {
-    same_bytes(names_of(sheet), a as usize, b as usize)
+    same_bytes(sheet.marked_names(), a as usize, b as usize)
 }
 
 // Two type judgements: the names of the objects, by their bytes, their ids, the names of the datatypes. Those of two sheets are
@@ -53,10 +40,10 @@ fn compare_propositions(sheet: &AdmittedSheet, p: u16, q: u16) -> Result<bool, R
     requires { (p < propositions sheet.now) × (q < propositions sheet.now) }
     ensures { outcome_of result ≡ alpha_eq (named_prop sheet.now p) (named_prop sheet.now q) }
 {
-    let pairs = sheet.proposition_pairs();
-    let i = pair_offset(pairs, p as usize);
-    let j = pair_offset(pairs, q as usize);
-    alpha_eq::alpha_eq(sheet.code_bytes(), i, j, names_of(sheet))
+    let marked = sheet.marked_propositions();
+    let i = pair_offset(marked.pairs, p as usize);
+    let j = pair_offset(marked.pairs, q as usize);
+    alpha_eq::alpha_eq(marked.bytes, i, j, sheet.marked_names())
 }
 
 // Two conclusions, be they those of steps or not: a proposition and a type judgement are a no. A comparison of propositions up to the

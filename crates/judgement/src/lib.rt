@@ -79,14 +79,8 @@ fn stand(sheet: &AdmittedSheet, numbers: &[u16], code: &mut [u8; CODE_SIZE])
         (propositions sheet.now) numbers.now code.new }
 {
     let h = sheet.header();
-    put_code(
-        sheet.proposition_pairs(),
-        sheet.code_bytes(),
-        h.propositions,
-        h.names,
-        numbers,
-        code,
-    );
+    let propositions = sheet.marked_propositions();
+    put_code(propositions, h.propositions, h.names, numbers, code);
 }
 
 // What the rules say: the node at which they stop, or none where they derive the judgement.

@@ -9,6 +9,7 @@ use crate::header::Sheet;
 use crate::parts::HeadedSheet;
 use crate::{answer, check};
 use definitions::Refusal;
+use number::Marked;
 use std::marker::Model;
 use vocabulary::Memory;
 
@@ -92,6 +93,24 @@ impl<'a> AdmittedSheet<'a> {
         ensures accepted { Accepted self.now }
     {
         self.sheet.proposition_pairs()
+    }
+
+    // Its names, and the text that their pairs mark.
+    pub fn marked_names(&self) -> Marked<'a>
+        ensures pairs { result.pairs.now ≡ name_pairs self.now }
+        ensures text { result.bytes.now ≡ text_bytes self.now }
+        ensures accepted { Accepted self.now }
+    {
+        self.sheet.marked_names()
+    }
+
+    // Its propositions, and the code that their pairs mark.
+    pub fn marked_propositions(&self) -> Marked<'a>
+        ensures pairs { result.pairs.now ≡ proposition_pairs self.now }
+        ensures code { result.bytes.now ≡ code_bytes self.now }
+        ensures accepted { Accepted self.now }
+    {
+        self.sheet.marked_propositions()
     }
 
     // Its steps.

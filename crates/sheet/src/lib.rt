@@ -57,13 +57,15 @@ impl HeadedSheet<'_> {
         ensures { outcome_of result ≡ name_checks self.now.bytes.now }
     {
         let h = self.header;
-        let pairs = self.name_pairs();
-        let bad_pair = first_bad_pair(pairs, h.names, h.text_length, Sheet::NAME_LENGTH_LIMIT);
+        let names = self.marked_names();
+        let bad_pair = first_bad_pair(
+            names.pairs,
+            h.names,
+            h.text_length,
+            Sheet::NAME_LENGTH_LIMIT,
+        );
         refuse_at(bad_pair, Reason::NamePair)?;
-        refuse_at(
-            first_bad_name(pairs, self.text_bytes(), h.names),
-            Reason::NameByte,
-        )
+        refuse_at(first_bad_name(names, h.names), Reason::NameByte)
     }
 
     // Refusals 6 to 8: the propositions.
@@ -72,16 +74,15 @@ impl HeadedSheet<'_> {
         ensures { outcome_of result ≡ proposition_checks self.now.bytes.now }
     {
         let h = self.header;
-        let pairs = self.proposition_pairs();
-        let code = self.code_bytes();
-        let bad_pair = first_bad_pair(pairs, h.propositions, h.code_length, h.code_length);
+        let marked = self.marked_propositions();
+        let bad_pair = first_bad_pair(marked.pairs, h.propositions, h.code_length, h.code_length);
         refuse_at(bad_pair, Reason::PropositionPair)?;
         refuse_at(
-            first_bad_code(pairs, code, h.propositions, h.names),
+            first_bad_code(marked, h.propositions, h.names),
             Reason::PropositionCode,
         )?;
         refuse_at(
-            first_deep_proposition(pairs, code, h.propositions, h.names),
+            first_deep_proposition(marked, h.propositions, h.names),
             Reason::PropositionNesting,
         )
     }

@@ -34,36 +34,28 @@ pub fn first_bad_pair(pairs: &[u8], count: usize, bytes: usize, longest: usize) 
 // Refusal 5: the lowest name with a byte that its position does not allow. What this search and the two below ask for is what the stage
 // before each has shown of the pairs. A `HeadedSheet` knows its header alone, so as its methods they would ask for the same.
 #[tactic(auto, unfolding(definitions::specs::Admission::bad_name))]
-pub fn first_bad_name(pairs: &[u8], text: &[u8], count: usize) -> Option<usize>
-    requires { HasPairs pairs.now text.now count }
-    ensures { result ≡ lowest (bad_name pairs.now text.now) count }
+pub fn first_bad_name(names: Marked, count: usize) -> Option<usize>
+    requires { HasPairs names.pairs.now names.bytes.now count }
+    ensures { result ≡ lowest (bad_name names.entry.pairs.now names.entry.bytes.now) count }
 {
-    let names = Marked { pairs, bytes: text };
     lowest(count, |i| !is_name(names.piece(i)))
 }
 
 // Refusal 7: the lowest proposition whose code is not exactly one proposition.
 #[tactic(auto, unfolding(definitions::specs::Admission::bad_code), using(crate::proofs::Searched::denied_twice))]
-pub fn first_bad_code(pairs: &[u8], code: &[u8], count: usize, names: usize) -> Option<usize>
-    requires { HasPairs pairs.now code.now count }
-    ensures { result ≡ lowest (bad_code names pairs.now code.now) count }
+pub fn first_bad_code(propositions: Marked, count: usize, names: usize) -> Option<usize>
+    requires { HasPairs propositions.pairs.now propositions.bytes.now count }
+    ensures { result ≡ lowest (bad_code names propositions.entry.pairs.now propositions.entry.bytes.now) count }
 {
-    let propositions = Marked { pairs, bytes: code };
     lowest(count, |i| !is_code(propositions.piece(i), names))
 }
 
 // Refusal 8: the lowest proposition that nests too deep.
 #[tactic(auto, unfolding(definitions::specs::Sheet::proposition_nesting_limit, definitions::specs::Tree::prop_in, definitions::specs::Admission::deep_proposition), using(crate::proofs::Given::pair_within, crate::proofs::Given::code_at))]
-pub fn first_deep_proposition(
-    pairs: &[u8],
-    code: &[u8],
-    count: usize,
-    names: usize,
-) -> Option<usize>
-    requires { HasCodes names pairs.now code.now count }
-    ensures { result ≡ lowest (deep_proposition names pairs.now code.now) count }
+pub fn first_deep_proposition(propositions: Marked, count: usize, names: usize) -> Option<usize>
+    requires { HasCodes names propositions.pairs.now propositions.bytes.now count }
+    ensures { result ≡ lowest (deep_proposition names propositions.entry.pairs.now propositions.entry.bytes.now) count }
 {
-    let propositions = Marked { pairs, bytes: code };
     lowest(count, |i| {
         let proposition = propositions.piece(i);
         is_deep(proposition, names, Sheet::PROPOSITION_NESTING_LIMIT)

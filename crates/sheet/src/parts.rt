@@ -4,6 +4,7 @@ ghost use Rattle.definitions.specs.Sheet.{name_pairs, proposition_pairs, step_re
 ghost use Rattle.sheet.specs.Header.{InRange, HasHeader, vocabulary_of};
 
 use crate::header::Sheet;
+use number::Marked;
 use vocabulary::{Memory, Vocabulary};
 
 // Where the names and the code of a sheet with this header lie.
@@ -85,5 +86,25 @@ impl<'a> HeadedSheet<'a> {
         ensures { result.now ≡ code_bytes self.now.bytes.now }
     {
         self.memory().code()
+    }
+
+    // Its names: their pairs, and the text that these mark.
+    #[tactic(auto, using(crate::proofs::NamesAndCode::within, crate::proofs::NamesAndCode::pairs_are, crate::proofs::NamesAndCode::text_is))]
+    pub fn marked_names(&self) -> Marked<'a>
+        ensures pairs { result.pairs.now ≡ name_pairs self.now.bytes.now }
+        ensures text { result.bytes.now ≡ text_bytes self.now.bytes.now }
+    {
+        self.memory().marked_names()
+    }
+
+    // Its propositions: their pairs, and the code that these mark.
+    pub fn marked_propositions(&self) -> Marked<'a>
+        ensures pairs { result.pairs.now ≡ proposition_pairs self.now.bytes.now }
+        ensures code { result.bytes.now ≡ code_bytes self.now.bytes.now }
+    {
+        Marked {
+            pairs: self.proposition_pairs(),
+            bytes: self.code_bytes(),
+        }
     }
 }

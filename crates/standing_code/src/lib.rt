@@ -15,20 +15,12 @@ const BOTTOM: usize = TOP + 1;
 pub const CODE_SIZE: usize = BOTTOM + 1;
 
 // The propositions, one after another, by their numbers, since a number is what finds a pair among the pairs; and then ⊤ and ⊥.
-pub fn put_code(
-    pairs: &[u8],
-    code: &[u8],
-    count: usize,
-    names: usize,
-    numbers: &[u16],
-    out: &mut [u8],
-)
-    requires { Codes names pairs.now code.now count numbers.now out.old }
-    ensures { CodeStands names pairs.now code.now count numbers.now out.new }
+pub fn put_code(propositions: Marked, count: usize, names: usize, numbers: &[u16], out: &mut [u8])
+    requires { Codes names propositions.pairs.now propositions.bytes.now count numbers.now out.old }
+    ensures { CodeStands names propositions.entry.pairs.now propositions.entry.bytes.now count numbers.now out.new }
 {
-    let propositions = Marked { pairs, bytes: code };
     for k in 0..count {
-        let to = pair_offset(pairs, k);
+        let to = pair_offset(propositions.pairs, k);
         let mut there = Writer { out, to };
         put_proposition(propositions.piece(k), names, numbers, &mut there);
     }

@@ -58,17 +58,25 @@ impl<'m> Memory<'m> {
         &self.bytes[v.code..v.code + v.code_length]
     }
 
+    // The names: their pairs, and the text that these mark.
+    pub fn marked_names(&self) -> Marked<'m>
+        requires { LiesWithin self.now }
+        ensures pairs { result.pairs.now ≡ pairs_of self.now }
+        ensures text { result.bytes.now ≡ text_of self.now }
+    {
+        Marked {
+            pairs: self.pairs(),
+            bytes: self.text(),
+        }
+    }
+
     // The bytes of a name.
     #[tactic(auto, unfolding(crate::specs::Vocabulary::name_in))]
     pub fn name(&self, i: usize) -> &'m [u8]
         requires { HasName self.now i }
         ensures { result.now ≡ name_of self.now i }
     {
-        let names = Marked {
-            pairs: self.pairs(),
-            bytes: self.text(),
-        };
-        names.piece(i)
+        self.marked_names().piece(i)
     }
 
     // Whether a name of this memory and a name of another have the same bytes.

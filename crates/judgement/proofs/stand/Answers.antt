@@ -6,9 +6,11 @@ use Rattle.judgement.proofs.stand.Goals as goal
 pub put_code-requires : goal.put_code-requires
 put_code-requires c =
     let header = c.header-h.ensures in
-    codes header.accepted header.is c.proposition_pairs.ensures.is c.code_bytes.ensures.is c.requires (search rules)
+    let propositions = c.marked_propositions-propositions.ensures in
+    codes header.accepted header.is propositions.pairs propositions.code c.requires (search rules)
 
 pub returns : goal.returns
 returns c =
     let header = c.header-h.ensures in
-    stands_so header.accepted header.is c.proposition_pairs.ensures.is c.code_bytes.ensures.is c.put_code.ensures
+    let propositions = c.marked_propositions-propositions.ensures in
+    stands_so header.accepted header.is propositions.pairs propositions.code c.put_code.ensures

@@ -4,4 +4,4 @@ use Rattle.standing_code.proofs.Places.{Below}
 use Rattle.standing_code.proofs.put_code.Given as goal
 
 abbrev pub invariant-loop-k : goal.invariant-loop-k
-invariant-loop-k l = (c : Codes l.names l.pairs l.code l.count l.numbers l.initial.out) → Below c l.k l.out
+invariant-loop-k l = (c : Codes l.names l.propositions.pairs.now l.propositions.bytes.now l.count l.numbers l.initial.out) → Below c l.k l.out

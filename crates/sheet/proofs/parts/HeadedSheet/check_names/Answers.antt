@@ -16,18 +16,18 @@ pair_search : (c : After-first_bad_pair-bad_pair) →
     let s = c.args.self.now.bytes.now in
     c.first_bad_pair-bad_pair.result ≡ lowest (bad_name_pair (name_pairs s) (text_length s)) (names s)
 unfolding header_of name_length_limit
-pair_search c = rw (c.name_pairs-pairs.ensures, c.args.self.now.headed.header, name_pairs_alike) at c.first_bad_pair-bad_pair.ensures
+pair_search c = rw (c.marked_names-names.ensures.pairs, c.args.self.now.headed.header, name_pairs_alike) at c.first_bad_pair-bad_pair.ensures
 
 name_search : (c : After-first_bad_name) →
     let s = c.args.self.now.bytes.now in
     c.first_bad_name.result ≡ lowest (bad_name (name_pairs s) (text_bytes s)) (names s)
 unfolding header_of
-name_search c = rw (c.name_pairs-pairs.ensures, c.text_bytes.ensures, c.args.self.now.headed.header) at c.first_bad_name.ensures
+name_search c = rw (c.marked_names-names.ensures.pairs, c.marked_names-names.ensures.text, c.args.self.now.headed.header) at c.first_bad_name.ensures
 
 pub first_bad_name-requires : goal.first_bad_name-requires
 first_bad_name-requires c =
     let search_it = pair_search (goal.at.first_bad_name-requires c).After-first_bad_pair-bad_pair in
-    rw (c.name_pairs-pairs.ensures, c.text_bytes.ensures) (has_name_pairs c.args.self.now.headed (none_bad _ _ search_it 4 c.in_ok-refuse_at.ensures))
+    rw (c.marked_names-names.ensures.pairs, c.marked_names-names.ensures.text) (has_name_pairs c.args.self.now.headed (none_bad _ _ search_it 4 c.in_ok-refuse_at.ensures))
 
 pub returns : goal.returns
 unfolding name_checks

@@ -20,7 +20,7 @@ pair_search : (c : After-first_bad_pair-bad_pair) →
     c.first_bad_pair-bad_pair.result ≡ lowest (bad_proposition_pair (proposition_pairs s) (code_length s)) (propositions s)
 unfolding header_of
 pair_search c =
-    rw (c.proposition_pairs-pairs.ensures, c.args.self.now.headed.header, proposition_pairs_alike _ _ _ (le_refl _))
+    rw (c.marked_propositions-marked.ensures.pairs, c.args.self.now.headed.header, proposition_pairs_alike _ _ _ (le_refl _))
     at c.first_bad_pair-bad_pair.ensures
 
 pairs_good : (c : In_ok-refuse_at) → HasPairs (proposition_pairs c.args.self.now.bytes.now) (code_bytes c.args.self.now.bytes.now) c.args.self.now.header.propositions
@@ -33,17 +33,17 @@ code_search : (c : After-first_bad_code) →
     c.first_bad_code.result ≡ lowest (bad_code (names s) (proposition_pairs s) (code_bytes s)) (propositions s)
 unfolding header_of
 code_search c =
-    rw (c.proposition_pairs-pairs.ensures, c.code_bytes-code.ensures, c.args.self.now.headed.header) at c.first_bad_code.ensures
+    rw (c.marked_propositions-marked.ensures.pairs, c.marked_propositions-marked.ensures.code, c.args.self.now.headed.header) at c.first_bad_code.ensures
 
 nesting_search : (c : After-first_deep_proposition) →
     let s = c.args.self.now.bytes.now in
     c.first_deep_proposition.result ≡ lowest (deep_proposition (names s) (proposition_pairs s) (code_bytes s)) (propositions s)
 unfolding header_of
 nesting_search c =
-    rw (c.proposition_pairs-pairs.ensures, c.code_bytes-code.ensures, c.args.self.now.headed.header) at c.first_deep_proposition.ensures
+    rw (c.marked_propositions-marked.ensures.pairs, c.marked_propositions-marked.ensures.code, c.args.self.now.headed.header) at c.first_deep_proposition.ensures
 
 pub first_bad_code-requires : goal.first_bad_code-requires
-first_bad_code-requires c = rw (c.proposition_pairs-pairs.ensures, c.code_bytes-code.ensures) (pairs_good c)
+first_bad_code-requires c = rw (c.marked_propositions-marked.ensures.pairs, c.marked_propositions-marked.ensures.code) (pairs_good c)
 
 pub returns-in_err-refuse_at-2 : goal.returns-in_err-refuse_at-2
 unfolding proposition_checks
@@ -57,7 +57,7 @@ returns-in_err-refuse_at-2 c =
 pub first_deep_proposition-requires : goal.first_deep_proposition-requires
 first_deep_proposition-requires c =
     let at = goal.at.first_deep_proposition-requires c in
-    rw (c.proposition_pairs-pairs.ensures, c.code_bytes-code.ensures)
+    rw (c.marked_propositions-marked.ensures.pairs, c.marked_propositions-marked.ensures.code)
     (has_codes c.args.self.now.headed (pairs_good at.In_ok-refuse_at) (none_bad _ _ (code_search at.After-first_bad_code) 7 c.in_ok-refuse_at-2.ensures))
 
 pub returns : goal.returns
