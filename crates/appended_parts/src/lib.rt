@@ -8,7 +8,7 @@ ghost use Rattle.definitions.specs.Graft.{missing};
 ghost use Rattle.graft_laws.specs.Missing.{missing_below};
 ghost use Rattle.appended_parts.specs.Appended.{codes_below, Room, WrotePair, Addable, Appends};
 
-use equal_conclusions::{NumberedSheets, proposition_code};
+use equal_conclusions::NumberedSheets;
 use number::PAIR_SIZE;
 use output::sink::put_u16s;
 use output::{Sink, Writer};
@@ -98,7 +98,7 @@ fn append_proposition(
     ensures { Appends from (codes_below donor.now numbers.now (i + 1)) pairs.new code.new result }
 {
     let g = donor.header();
-    let source = proposition_code(donor, i);
+    let source = donor.proposition(i);
     let mut behind = Writer {
         out: code,
         to: before.length,

@@ -17,25 +17,20 @@ use Rattle.graft_laws.specs.Numbers.{host_number}
 use Rattle.graft_laws.proofs.MergedSheet.{rename_same, coded}
 use Rattle.definitions.proofs.Shape.{length_renamed}
 use Rattle.graft_laws.proofs.ByNumbers.{equal_by_numbers, host_renumbered}
-use Rattle.number.specs.Pairs.{NameWithin}
 use Rattle.output.specs.Sinks.{WriterPuts}
 use Rattle.output.specs.declared.writer.Writer.{Writer}
 use Rattle.merged_names.specs.Numbered.{Numbered}
 use Rattle.renumbering.specs.Renumbered.{mapped, Whole, PutWhole}
 use Rattle.sheet.specs.declared.header.Sheet.{Sheet}
 use Rattle.sheet.specs.Header.{header_of}
-use Rattle.sheet.proofs.Given.{pair_within}
 use Rattle.sheet.proofs.Slices.{lengths}
-use Rattle.sheet.proofs.Admitted.{AcceptedSheet, has_codes}
+use Rattle.sheet.proofs.Admitted.{AcceptedSheet}
 use Rattle.equal_conclusions.specs.Equality.{code_over, same_proposition}
 
 -- Of an accepted sheet:
 module _ {s : List ℕ} {h : Sheet} (a : AcceptedSheet s h) where
   checks : Checks s
   checks = (admitted_checks s (root_of s) a.root).0
-
-  pub pair_in : {i : ℕ} → i < propositions s → {pairs code : List ℕ} → pairs ≡ proposition_pairs s → code ≡ code_bytes s → NameWithin pairs code i
-  pair_in l e f = rw (e, f) (pair_within (has_codes a.sheet).pairs_within l)
 
   pub names_in : (numbers : List ℕ) → names s ≤ length numbers → h.names ≤ length numbers
   unfolding header_of

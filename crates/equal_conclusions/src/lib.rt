@@ -6,7 +6,7 @@ mod numbered_sheets;
 
 ghost use Rattle.std.specs.Prelude.{◌≡◌, ◌-◌, ◌<◌, ◌≤◌, length};
 ghost use Rattle.definitions.specs.Equal.{eq_conclusion};
-ghost use Rattle.definitions.specs.Sheet.{name_limit, names, propositions, steps, proposition_pairs, code_bytes, marked};
+ghost use Rattle.definitions.specs.Sheet.{name_limit, names, propositions, steps};
 ghost use Rattle.definitions.specs.Answers.{named_conclusion};
 ghost use Rattle.merged_names.specs.Numbered.{Numbered};
 ghost use Rattle.sheet.specs.Admitted.{Accepted};
@@ -14,25 +14,11 @@ ghost use Rattle.steps.specs.StepAt.{KnownJudgement};
 ghost use Rattle.equal_conclusions.specs.Equality.{code_over, same_proposition, same_judgement};
 
 use identifier::same_name;
-use number::Marked;
 pub use numbered_sheets::NumberedSheets;
 use output::Writer;
 use renumbering::put_proposition;
 use sheet::{AdmittedSheet, Sheet};
 use steps::{Conclusion, Judgement, step_at};
-
-// The code of a proposition of a sheet.
-pub fn proposition_code<'a>(sheet: &AdmittedSheet<'a>, i: usize) -> &'a [u8]
-    requires { i < propositions sheet.now }
-    ensures is { result.now ≡ marked (proposition_pairs sheet.now) (code_bytes sheet.now) i }
-    ensures accepted { Accepted sheet.now }
-{
-    let propositions = Marked {
-        pairs: sheet.proposition_pairs(),
-        bytes: sheet.code_bytes(),
-    };
-    propositions.piece(i)
-}
 
 // The code of a proposition over other name numbers, in lent memory.
 fn renumber_proposition<'a>(
@@ -48,7 +34,7 @@ fn renumber_proposition<'a>(
 {
     let names = sheet.header().names;
     let mut writer = Writer { out: memory, to: 0 };
-    put_proposition(proposition_code(sheet, i), names, numbers, &mut writer);
+    put_proposition(sheet.proposition(i), names, numbers, &mut writer);
     let end = writer.to;
     &memory[..end]
 }

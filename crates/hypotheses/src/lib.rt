@@ -10,7 +10,7 @@ ghost use Rattle.hypotheses.specs.Pairs.{out_of};
 ghost use Rattle.hypotheses.specs.Entered.{entered, Enterable};
 
 use checkable::is_quantifier_free;
-use number::{Marked, pair_offset};
+use number::pair_offset;
 use prop_numbers::NAMES;
 use sheet::AdmittedSheet;
 
@@ -34,12 +34,7 @@ pub fn is_free(sheet: &AdmittedSheet, k: usize) -> bool
     requires { k < propositions sheet.now }
     ensures { result ≡ is_quantifier_free (named_prop sheet.now k) }
 {
-    let propositions = Marked {
-        pairs: sheet.proposition_pairs(),
-        bytes: sheet.code_bytes(),
-    };
-    let code = propositions.piece(k);
-    is_quantifier_free(code, sheet.header().names)
+    is_quantifier_free(sheet.proposition(k), sheet.header().names)
 }
 
 // Whether the proposition of each hypothesis is such a one, also where a later hypothesis hides it: refusal 22.

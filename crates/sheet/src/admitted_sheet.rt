@@ -1,6 +1,6 @@
 // A sheet that refusals 1 to 11 let pass. A clause sees it as its bytes.
-ghost use Rattle.std.specs.Prelude.{◌≡◌, IfOk};
-ghost use Rattle.definitions.specs.Sheet.{steps, name_pairs, proposition_pairs, step_records, text_bytes, code_bytes};
+ghost use Rattle.std.specs.Prelude.{◌≡◌, ◌<◌, IfOk};
+ghost use Rattle.definitions.specs.Sheet.{propositions, steps, marked, name_pairs, proposition_pairs, step_records, text_bytes, code_bytes};
 ghost use Rattle.steps.specs.Tables.{SizeTable};
 ghost use Rattle.sheet.specs.Header.{header_of, vocabulary_of};
 ghost use Rattle.sheet.specs.Admitted.{Accepted, Admits};
@@ -111,6 +111,15 @@ impl<'a> AdmittedSheet<'a> {
         ensures accepted { Accepted self.now }
     {
         self.sheet.marked_propositions()
+    }
+
+    // The code of a proposition.
+    pub fn proposition(&self, i: usize) -> &'a [u8]
+        requires { i < propositions self.now }
+        ensures is { result.now ≡ marked (proposition_pairs self.now) (code_bytes self.now) i }
+        ensures accepted { Accepted self.now }
+    {
+        self.marked_propositions().piece(i)
     }
 
     // Its steps.

@@ -12,15 +12,15 @@ use Rattle.equal_conclusions.proofs.renumber_proposition.Goals.{After-put_propos
 
 pub put_proposition-requires : goal.put_proposition-requires
 put_proposition-requires c =
-    let accepted = c.proposition_code.ensures.accepted in
+    let accepted = c.proposition.ensures.accepted in
     let sheet = with_header accepted in
     rw c.header-names.ensures.is
-    (whole_code sheet accepted.bytes _ c.requires.i_bound c.proposition_code.ensures.is, names_in sheet c.args.numbers.now (has_numbers sheet _ c.requires.room))
+    (whole_code sheet accepted.bytes _ c.requires.i_bound c.proposition.ensures.is, names_in sheet c.args.numbers.now (has_numbers sheet _ c.requires.room))
 
 pub shape_of-memory : goal.shape_of-memory
 shape_of-memory c =
-    let accepted = c.proposition_code.ensures.accepted in
-    let put = code_written (with_header accepted) accepted.bytes _ c.requires.i_bound c.proposition_code.ensures.is (rw c.header-names.ensures.is at c.put_proposition.ensures) in
+    let accepted = c.proposition.ensures.accepted in
+    let put = code_written (with_header accepted) accepted.bytes _ c.requires.i_bound c.proposition.ensures.is (rw c.header-names.ensures.is at c.put_proposition.ensures) in
     let same = put.same_memory in
     search rules
 
@@ -30,10 +30,10 @@ stored : (c : After-put_proposition) →
     (take after.to after.out.now ≡ code_over c.args.sheet.now c.args.numbers.now c.args.i) × (after.to ≤ code_limit)
 unfolding code_limit
 stored c =
-    let accepted = c.proposition_code.ensures.accepted in
+    let accepted = c.proposition.ensures.accepted in
     let sheet = with_header accepted in
     code_stored sheet accepted.bytes _ c.requires.i_bound _ (search rules) refl
-    (code_written sheet accepted.bytes _ c.requires.i_bound c.proposition_code.ensures.is (rw c.header-names.ensures.is at c.put_proposition.ensures))
+    (code_written sheet accepted.bytes _ c.requires.i_bound c.proposition.ensures.is (rw c.header-names.ensures.is at c.put_proposition.ensures))
 
 pub shared_ref_as_front-result : goal.shared_ref_as_front-result
 unfolding code_limit
