@@ -1,33 +1,28 @@
 -- The tests of 26 and 27, and what they make of the answer.
-use Prim.Native.Nat.{ℕ, ◌+◌, ◌-◌, ◌≤◌, ◌<◌}
+use Prim.Native.Nat.{ℕ, ◌+◌, ◌-◌, ◌<◌}
 use mathlib.Core.Path.{◌≡◌, refl}
 use mathlib.Core.Bool.{Bool, true, false, true≢false}
 use mathlib.Core.List.{List}
 use native.Mathlib.Omega.{arith}
 use native.Mathlib.Decide.{dec_lt}
-use lib.ListN.{length}
 use lib.Dec.{ltb}
 use borrow.Author.Tests.{le-leb}
 use Rattle.definitions.specs.Outcome.{refuse, refuse_if, ◌>>=◌}
-use Rattle.definitions.specs.Sheet.{step_size, name_limit, tree_nesting_limit, steps, step_records}
+use Rattle.definitions.specs.Sheet.{step_size, tree_nesting_limit, steps, step_records}
 use Rattle.definitions.specs.Tree.{height, root_of}
 use Rattle.definitions.specs.Equal.{eq_conclusion}
 use Rattle.definitions.specs.Answers.{named_conclusion}
-use Rattle.definitions.specs.NameIndex.{index_of}
 use Rattle.definitions.specs.Graft.{not_open, differ, passes_limit, graft}
 use Rattle.graft_laws.specs.Levels.{above}
 use Rattle.graft_laws.proofs.MergedSheet.{Grafts}
 use Rattle.graft_laws.proofs.MergedLevels.{merged_levels}
 use Rattle.output.specs.Written.{filled}
-use Rattle.name_index.specs.declared.Index.{Index}
-use Rattle.merged_names.specs.Numbered.{Indexed, Numbered}
 use Rattle.steps.specs.Records.{HasStep}
 use Rattle.sheet.specs.declared.header.Sheet.{Sheet}
 use Rattle.std.specs.Prelude.{Result, Err}
-use Rattle.sheet.specs.Header.{header_of, vocabulary_of}
+use Rattle.sheet.specs.Header.{header_of}
 use Rattle.sheet.specs.Admitted.{Admitted}
-use Rattle.sheet.proofs.Admitted.{AcceptedSheet, has_steps, its_header}
-use Rattle.sheet.proofs.NamesAndCode.{count_is, names_are, names_of}
+use Rattle.sheet.proofs.Admitted.{has_steps}
 use Rattle.merged_sheet.specs.Merging.{limited, headed, Merging}
 use Rattle.grafting.specs.Answered.{equal_and_limited}
 use Rattle.definitions.specs.declared.Refusal.{Refusal}
@@ -69,19 +64,3 @@ module _ (s t : List ℕ) (k room : ℕ) where
       → {before after : List ℕ} {r : Result Sheet Refusal} → Merging (equal_and_limited s t k deep room) before after r → Merging (graft s t k room) before after r
   unfolding graft passes_limit equal_and_limited limited refuse_if ◌>>=◌
   open_grafted g is m = rw (g.is_open, merged_levels g, ← is) m
-
--- the names of an accepted sheet with their index, and a map in which no number is stored yet
-pub indexed : {x : Index} {h : Sheet} → AcceptedSheet x.memory.bytes.now h → x.memory.vocabulary ≡ vocabulary_of h → x.slots.now ≡ index_of x.memory.bytes.now → Indexed x
-unfolding header_of
-indexed {x} {h} a is index =
-    let has = its_header a in
-    record {
-      named = λ i l. rw is (names_of a l);
-      are_names = rw is (names_are has);
-      count = rw is (count_is has);
-      few = a.sheet.in_range.names;
-      index = index;
-    }
-
-pub none_numbered : (s t : List ℕ) {numbers : List ℕ} → name_limit ≤ length numbers → Numbered s t 0 numbers
-none_numbered s t room = record { room = room; stored = λ m l. absurd (omega arith) }

@@ -9,7 +9,7 @@ ghost use Rattle.definitions.specs.Graft.{not_open, graft, graft_answer};
 ghost use Rattle.graft_laws.specs.Levels.{above};
 ghost use Rattle.graft_laws.specs.Merges.{Merges};
 ghost use Rattle.output.specs.Written.{Fills};
-ghost use Rattle.merged_names.specs.Numbered.{Indexed, Numbered};
+ghost use Rattle.merged_names.specs.Numbered.{Numbered};
 ghost use Rattle.sheet.specs.Admitted.{Accepted};
 ghost use Rattle.restating.specs.Slots.{slots_after};
 ghost use Rattle.merged_sheet.specs.Merging.{Merging};
@@ -17,9 +17,9 @@ ghost use Rattle.grafting.specs.Answered.{equal_and_limited, FillsBy, slots_by};
 
 use definitions::{Reason, Refusal, Whose};
 use equal_conclusions::{NumberedSheets, same_conclusion};
-use merged_names::{IndexedSheets, fill_numbers};
+use merged_names::{IndexedSheets, fill_numbers, index_names};
 use merged_sheet::merge;
-use name_index::{Index, SLOT_COUNT, build};
+use name_index::{SLOT_COUNT, build};
 use sheet::{AdmittedSheet, Sheet, SizedSheet, vocabulary};
 use steps::{Rule, premiss_count, rule_byte};
 use vocabulary::Memory;
@@ -59,20 +59,6 @@ fn too_deep(host: &SizedSheet, k: usize, donor: &SizedSheet) -> bool
 {
     let levels = donor.root_height() as usize;
     (Sheet::TREE_NESTING_LIMIT as usize) < steps_above(host, k) + levels
-}
-
-// The names of a sheet with their index, which is built in lent slots.
-pub fn index_names<'a, 's: 'a>(
-    sheet: &AdmittedSheet<'s>,
-    slots: &'a mut [u16; SLOT_COUNT],
-) -> Index<'a>
-    ensures is { result.memory.bytes.now ≡ sheet.now }
-    ensures indexed { Indexed result }
-    ensures accepted { Accepted sheet.now }
-{
-    let memory = sheet.memory();
-    build(slots, &memory);
-    Index { memory, slots }
 }
 
 // Stores the numbers that the host's names and the donor's have in the merged sheet. One index of the host's names serves both, so

@@ -15,9 +15,8 @@ ghost use Rattle.judgement.specs.Asked.{Known, held_term, may_check, ruled, Lowe
 use checkable::is_checkable;
 use checker::{State, Terms};
 use definitions::{Reason, Refusal};
-use grafting::index_names;
 use hypotheses::{are_free, assume, is_free, is_out};
-use merged_names::{IndexedSheets, fill_numbers};
+use merged_names::{IndexedSheets, fill_numbers, index_names};
 use name_index::SLOT_COUNT;
 use number::pair_offset;
 use proof_term::NODE_LIMIT;

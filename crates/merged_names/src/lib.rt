@@ -6,9 +6,25 @@ ghost use Rattle.std.specs.Prelude.{◌≡◌, ◌+◌, ◌<◌, length};
 ghost use Rattle.definitions.specs.Sheet.{names};
 ghost use Rattle.definitions.specs.Graft.{missing};
 ghost use Rattle.graft_laws.specs.Missing.{missing_below};
+ghost use Rattle.sheet.specs.Admitted.{Accepted};
 ghost use Rattle.merged_names.specs.Numbered.{Indexed, Numbered, Known, NumberedTo, SameMemory};
 
-use name_index::Index;
+use name_index::{Index, SLOT_COUNT, build};
+use sheet::AdmittedSheet;
+
+// The names of a sheet with their index, which is built in lent slots.
+pub fn index_names<'a, 's: 'a>(
+    sheet: &AdmittedSheet<'s>,
+    slots: &'a mut [u16; SLOT_COUNT],
+) -> Index<'a>
+    ensures is { result.memory.bytes.now ≡ sheet.now }
+    ensures indexed { Indexed result }
+    ensures accepted { Accepted sheet.now }
+{
+    let memory = sheet.memory();
+    build(slots, &memory);
+    Index { memory, slots }
+}
 
 // The names of a host and of a donor, each by the index of its own sheet.
 #[derive(Clone, Copy)]

@@ -1,27 +1,20 @@
 -- What an answer says of the bytes that are handed over and of the slots.
-use Prim.Native.Nat.{ℕ, ◌≤◌}
-use mathlib.Core.Path.{◌≡◌, refl, sym, ap, ap₂, ◌∙◌}
+use Prim.Native.Nat.{ℕ}
+use mathlib.Core.Path.{◌≡◌, refl, sym, ◌∙◌}
 use mathlib.Core.List.{List}
 use native.Mathlib.Omega.{arith}
 use lib.ListN.{length, take, drop}
 use lib.Seq.{take_at}
 use Rattle.definitions.specs.declared.Refusal.{Refusal}
 use Rattle.definitions.specs.Outcome.{Outcome, refused, accepted, ◌>>=◌}
-use Rattle.definitions.specs.Sheet.{name_limit}
 use Rattle.definitions.specs.Admission.{admitted}
-use Rattle.definitions.specs.NameIndex.{index, index_of}
+use Rattle.definitions.specs.NameIndex.{index_of}
 use Rattle.definitions.specs.Restate.{Given, restated, restate_answer}
 use Rattle.writer_laws.specs.Restates.{Restates}
 use Rattle.writer_laws.proofs.Restating.{answer_restates}
 use Rattle.std.specs.Prelude.{Result, Ok, Err, ℕ}
 use Rattle.output.specs.Written.{Fills, written_of, filled}
 use Rattle.output.proofs.Filling.{refuses}
-use Rattle.vocabulary.specs.declared.Vocabulary.{Vocabulary}
-use Rattle.vocabulary.specs.Vocabulary.{name_in, Within}
-use Rattle.sheet.specs.declared.header.Sheet.{Sheet}
-use Rattle.sheet.specs.Header.{header_of, vocabulary_of}
-use Rattle.sheet.proofs.Admitted.{AcceptedSheet, its_header}
-use Rattle.sheet.proofs.NamesAndCode.{count_is, names_are, within}
 use Rattle.restating.specs.Slots.{slots_after}
 
 -- a refused sheet
@@ -29,21 +22,6 @@ pub sheet-refused : (s : List ℕ) (g : Given) {r : Refusal} → admitted s ≡ 
     → Fills (restate_answer s g room) before before (Err r)
 unfolding restate_answer restated ◌>>=◌
 sheet-refused s g e = refuses (rw e)
-
--- the index of an accepted sheet's names
-module _ {s : List ℕ} {h : Sheet} (a : AcceptedSheet s h) {v : Vocabulary} (is : v ≡ vocabulary_of h) where
-  pub vocabulary-within : Within s v
-  vocabulary-within = rw is (within (its_header a))
-
-  pub few_names : v.name_count ≤ name_limit
-  unfolding header_of
-  few_names = rw (is, count_is (its_header a)) a.sheet.in_range.names
-
-  pub built : {slots : List ℕ} → slots ≡ index (name_in s v) v.name_count → slots ≡ index_of s
-  unfolding index_of
-  built e =
-      let has = its_header a in
-      e ∙ ap₂ index (ap (name_in s) is ∙ names_are has) (ap (λ w. w.name_count) is ∙ count_is has)
 
 -- an answer told by its kind
 pub told : {o : Outcome (List ℕ)} {before after : List ℕ} {r x : Result ℕ Refusal} → Fills o before after r → r ≡ x → Fills o before after x

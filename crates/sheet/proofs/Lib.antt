@@ -8,4 +8,5 @@ pub mod Short
 pub mod Given
 pub mod Admitted
 pub mod NamesAndCode
+pub mod Indexing
 pub mod RootHeight

@@ -1,7 +1,7 @@
 -- Each sheet has its index beside it; the host grafted into itself has its own lowest numbers.
 use native.Mathlib.Omega.{arith}
 use Rattle.definitions.specs.Sheet.{name_limit}
-use Rattle.grafting.proofs.Tests.{none_numbered}
+use Rattle.merged_names.proofs.Indexing.{none_numbered}
 use Rattle.grafting.proofs.number_names.Goals as goal
 
 pub fill_numbers-requires : goal.fill_numbers-requires

@@ -1,5 +1,5 @@
 -- With its index beside it, the sheet merged into itself has its own lowest numbers.
-use Rattle.grafting.proofs.Tests.{none_numbered}
+use Rattle.merged_names.proofs.Indexing.{none_numbered}
 use Rattle.judgement.proofs.number_names.Goals as goal
 
 pub invariant_of-sheets : goal.invariant_of-sheets

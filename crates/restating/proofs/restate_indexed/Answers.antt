@@ -2,7 +2,8 @@
 use borrow.Author.Rules.{rules}
 use Rattle.definitions.specs.NameIndex.{slot_count}
 use Rattle.sheet.proofs.Admitted.{with_header}
-use Rattle.restating.proofs.Answers.{told, vocabulary-within, few_names, built, slots_kept, slots-built}
+use Rattle.sheet.proofs.Indexing.{vocabulary-within, few_names, built}
+use Rattle.restating.proofs.Answers.{told, slots_kept, slots-built}
 use Rattle.restating.proofs.restate_indexed.Goals as goal
 
 pub returns-in_err-length : goal.returns-in_err-length

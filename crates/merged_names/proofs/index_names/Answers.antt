@@ -2,11 +2,11 @@
 use Rattle.std.proofs.Common.{rules}
 use Rattle.definitions.specs.NameIndex.{slot_count}
 use Rattle.sheet.proofs.Admitted.{AcceptedSheet, with_header}
-use Rattle.restating.proofs.Answers.{vocabulary-within, few_names, built}
+use Rattle.sheet.proofs.Indexing.{vocabulary-within, few_names, built}
 use Rattle.sheet.specs.Header.{header_of}
-use Rattle.grafting.proofs.Tests.{indexed}
-use Rattle.grafting.proofs.index_names.Goals as goal
-use Rattle.grafting.proofs.index_names.Goals.{After-memory-memory}
+use Rattle.merged_names.proofs.Indexing.{indexed}
+use Rattle.merged_names.proofs.index_names.Goals as goal
+use Rattle.merged_names.proofs.index_names.Goals.{After-memory-memory}
 
 -- the sheet, the bytes that the index is of
 here : (c : After-memory-memory) → AcceptedSheet c.memory-memory.result.bytes.now (header_of c.args.sheet.now)
