@@ -7,9 +7,19 @@ use Rattle.definitions.specs.Encode.{concat}
 use Rattle.definitions.specs.Graft.{up_to}
 use Rattle.output.specs.Numbers.{u16s}
 use Rattle.output.specs.SinkLaws.{SinkLaws}
+use lib.ListN.{get_or}
+use Rattle.steps.specs.declared.Conclusion.{Conclusion}
+use Rattle.steps.specs.declared.Conclusion.TheVariants.{PropIsTrue, TypeJudgement}
 use Rattle.steps.specs.declared.Step.{Step}
-use Rattle.steps.specs.StepAt.{step_at}
+use Rattle.steps.specs.StepAt.{numbers_of, step_at}
 use Rattle.renumbering.specs.StepOver.{step_over, conclusion_bytes, step_bytes, steps_over}
+
+-- a conclusion's numbers one by one, and the column behind them
+pub conclusion_is : (x : Conclusion) (column : ℕ) {numbers : List ℕ} → numbers ≡ numbers_of x
+    → u16s (get_or numbers 0 0 ∷ get_or numbers 1 0 ∷ get_or numbers 2 0 ∷ get_or numbers 3 0 ∷ column ∷ []) ≡ conclusion_bytes x column
+unfolding numbers_of conclusion_bytes
+conclusion_is (PropIsTrue p) column is = rw is
+conclusion_is (TypeJudgement x) column is = rw is
 
 pub step_written : (s : Step) {S : Type 0} {puts : S → List ℕ → S → Type 0} (laws : SinkLaws puts) {before a b c after : S} → puts before (s.rule ∷ []) a
     → puts a (s.premiss_count ∷ []) b

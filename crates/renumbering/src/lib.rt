@@ -16,8 +16,8 @@ ghost use Rattle.renumbering.specs.StepOver.{ConclusionMapped, IdentifiersMapped
 use number::number_at;
 use output::Sink;
 use output::sink::{put_u16, put_u16s};
-use prefix_code::{Head, ParameterKind, known_head_end};
-use steps::{Conclusion, Identifier, Judgement, PROP_IS_TRUE, Rule, Step, TYPE_JUDGEMENT, step_at};
+use prefix_code::{Head, ParameterKind, head_end, parameter_end};
+use steps::{Conclusion, Identifier, Judgement, Rule, Step, step_at};
 
 // The code of a proposition with so many names, and the map that has a number for each of these. The place stands loose: it moves from call
 // to call. What is asked and promised is one relation of a coding, `Standing` or `Renumbers`, in which each method names its own.
@@ -165,18 +165,13 @@ fn renumber_step(numbers: &[u16], step: Step, shift: usize) -> Step
     }
 }
 
-// A conclusion and the column after it: its kind, and then a proposition and two zeros, or an object and its datatype.
-#[tactic(auto, unfolding(crate::specs::StepOver::conclusion_bytes))]
+// A conclusion and the column after it.
+#[tactic(auto, using(crate::proofs::Steps::conclusion_is))]
 fn put_conclusion<S: Sink<u8>>(sink: &mut S, conclusion: Conclusion, column: u16)
     ensures { S.puts sink.old (conclusion_bytes conclusion column) sink.new }
 {
-    match conclusion {
-        Conclusion::PropIsTrue(p) => put_u16s(sink, &[PROP_IS_TRUE as u16, p, 0, 0, column]),
-        Conclusion::TypeJudgement(x) => {
-            let kind = TYPE_JUDGEMENT as u16;
-            put_u16s(sink, &[kind, x.name, x.unique_id, x.datatype, column]);
-        }
-    }
+    let [kind, first, second, third] = conclusion.numbers();
+    put_u16s(sink, &[kind, first, second, third, column]);
 }
 
 // The record of a step.

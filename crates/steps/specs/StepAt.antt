@@ -1,5 +1,5 @@
 -- A step as a value: the numbers of its record, and what they stand for in the definitions.
-use Rattle.std.specs.Prelude.{ℕ, ◌+◌, ◌<◌, ◌≡◌, cond, List, eqb}
+use Rattle.std.specs.Prelude.{ℕ, ◌+◌, ◌<◌, ◌≡◌, cond, List, [], ◌∷◌, eqb}
 use Rattle.definitions.specs.Sheet.{rule_byte, premiss_count, step_number, column}
 use Rattle.definitions.specs.Tree as tree
 use Rattle.definitions.specs.Tree.{ProofTreeConclusion, prop_in}
@@ -32,6 +32,11 @@ module _ (records : List ℕ) (k : ℕ) where
         conclusion = conclusion_at;
         column = column records k;
       }
+
+-- the numbers that a record has for a conclusion
+unfoldable pub numbers_of : Conclusion → List ℕ
+numbers_of (PropIsTrue p) = 0 ∷ p ∷ 0 ∷ 0 ∷ []
+numbers_of (TypeJudgement x) = 1 ∷ x.name ∷ x.unique_id ∷ x.datatype ∷ []
 
 -- the identifier and the object of a judgement that the numbers stand for
 unfoldable pub identifier_of : Identifier → tree.Identifier ℕ

@@ -14,7 +14,6 @@ ghost use Rattle.steps.specs.StepAt.{step_at};
 ghost use Rattle.steps.specs.Tables.{SizeTable, FilledSizes};
 
 use record::StepRecord;
-pub use record::{PROP_IS_TRUE, TYPE_JUDGEMENT};
 pub use rule::Rule;
 use search::lowest;
 pub use sized_steps::SizedSteps;

@@ -4,7 +4,7 @@ ghost use Rattle.definitions.specs.Sheet.{step_size, rule_byte, premiss_count, s
 ghost use Rattle.definitions.specs.Admission.{no_name, not_zero, bad_identifier, bad_prop_is_true, bad_type_judgement, bad_conclusion, bad_column, bad_step};
 ghost use Rattle.steps.specs.Records.{HasStep};
 ghost use Rattle.steps.specs.Fields.{offset_of, identifier_in};
-ghost use Rattle.steps.specs.StepAt.{conclusion_at, step_at};
+ghost use Rattle.steps.specs.StepAt.{conclusion_at, numbers_of, step_at};
 ghost use Rattle.steps.specs.Rules.{bad_identifiers};
 
 use crate::rule::Rule;
@@ -36,10 +36,25 @@ impl Field {
     }
 }
 
-// The kinds of conclusions: the number of a proposition, or an object with its id and its datatype.
-pub const PROP_IS_TRUE: usize = 0;
+// The numbers by which a record says what its conclusion is. `Conclusion` is their enum: one of kinds alone would have its variants again.
+const PROP_IS_TRUE: usize = 0;
 
-pub const TYPE_JUDGEMENT: usize = 1;
+const TYPE_JUDGEMENT: usize = 1;
+
+impl Conclusion {
+    // The numbers that a record has for it: its kind, and then a proposition and two zeros, or an object with its id and its datatype.
+    #[tactic(auto, unfolding(crate::specs::StepAt::numbers_of))]
+    pub fn numbers(self) -> [u16; 4]
+        ensures { result ≡ numbers_of self }
+    {
+        match self {
+            Conclusion::PropIsTrue(p) => [PROP_IS_TRUE as u16, p, 0, 0],
+            Conclusion::TypeJudgement(x) => {
+                [TYPE_JUDGEMENT as u16, x.name, x.unique_id, x.datatype]
+            }
+        }
+    }
+}
 
 // Step k of records that have it.
 #[derive(Clone, Copy)]
