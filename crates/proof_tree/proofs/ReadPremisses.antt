@@ -25,12 +25,19 @@ use Rattle.proof_tree.specs.declared.table.RuleTerm.{RuleTerm}
 use Rattle.proof_tree.specs.declared.table.RuleTerm.TheVariants.{Premiss}
 use Rattle.proof_tree.specs.declared.table.Row.{Row}
 use Rattle.prefix_code.specs.PropAt.{prop_at}
-use Rattle.proof_tree.specs.declared.table.PremissMode.TheVariants.{Own}
-use Rattle.proof_tree.specs.Table.{part_count, premiss_mode, TableRow}
+use Rattle.std.specs.Prelude.{Option, Some, None, unwrap_or}
+use Rattle.proof_tree.specs.declared.table.ReasoningMode.{ReasoningMode}
+use Rattle.proof_tree.specs.Table.{part_count, mode_of, premiss_mode, TableRow}
 use Rattle.proof_tree.specs.Premisses.{premisses_from, PremissStep}
 use Rattle.proof_tree.specs.Terms.{first_three, part_terms, terms_labels, Parts}
 use Rattle.proof_tree.specs.Exporting.{Grown, ExportedTerm}
 use Rattle.proof_tree.proofs.Ordering.{premiss_ordered}
+
+-- a premiss that has no mode of its own has its step's
+pub mode_below : (own : ReasoningMode) (m : Option ReasoningMode) → mode_of (unwrap_or m own) ≡ premiss_mode (mode_of own) m
+unfolding mode_of premiss_mode
+mode_below own None = refl
+mode_below own (Some m) = refl
 
 -- what one more premiss adds to those that were read
 then_more : {A : Type 0} (o : Outcome (List A)) (a : A) (s : List A)
@@ -131,13 +138,13 @@ read_none names pairs code records k mode row terms used =
 
 module _ {names : ℕ} {pairs code records : List ℕ} {k : ℕ} {mode : Place} {row : Row} {before : List ℕ} {used i : ℕ} {parts terms : List ℕ} {next : ℕ} (is_row : TableRow (rule_in records k) row) (read : PremissesRead names pairs code records k mode row before used i parts terms next) where
   -- The premiss of position i, which step q finishes, in its mode m.
-  module _ {q : ℕ} {m : Place} (h : i < length row.modes.now) (p : PremissStep records k i q) (in-mode : m ≡ premiss_mode mode (get_or row.modes.now i Own)) where
+  module _ {q : ℕ} {m : Place} (h : i < length row.modes.now) (p : PremissStep records k i q) (in-mode : m ≡ premiss_mode mode (get_or row.modes.now i None)) where
     next_mode : drop i (places (rule_in records k) mode) ≡ m ∷ drop (i + 1) (places (rule_in records k) mode)
     next_mode =
         let l = map (premiss_mode mode) row.modes.now in
         let long : i < length l = rw (length-map row.modes.now (premiss_mode mode)) h in
-        let here : get_or l i (premiss_mode mode Own) ≡ m = get_or-map (premiss_mode mode) row.modes.now i Own ∙ sym in-mode in
-        rw (← (is_row.modes_are mode), add-one) (drop-cons l i (premiss_mode mode Own) long ∙ ap (λ n. n ∷ drop (suc i) l) here)
+        let here : get_or l i (premiss_mode mode None) ≡ m = get_or-map (premiss_mode mode) row.modes.now i None ∙ sym in-mode in
+        rw (← (is_row.modes_are mode), add-one) (drop-cons l i (premiss_mode mode None) long ∙ ap (λ n. n ∷ drop (suc i) l) here)
 
     tree : ProofTree ℕ
     tree = tree_in names pairs code records q

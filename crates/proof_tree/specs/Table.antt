@@ -1,5 +1,5 @@
 -- Document 01's table of places and labels, as the program's rows have it.
-use Rattle.std.specs.Prelude.{ℕ, ◌≤◌, ◌≡◌, map, length, Option}
+use Rattle.std.specs.Prelude.{ℕ, ◌≤◌, ◌≡◌, map, length, Option, Some, None}
 use Rattle.definitions.specs.Tree.{ProofTreeRule}
 use Rattle.definitions.specs.Term as term
 use Rattle.definitions.specs.Term.{Label, ProofTerm}
@@ -11,8 +11,6 @@ use Rattle.proof_tree.specs.declared.table.Ending.{Ending}
 use Rattle.proof_tree.specs.declared.table.Ending.TheVariants.{Bare, Ascribed, LeftLabelled, DatatypeLabelled, PremissOwn}
 use Rattle.proof_tree.specs.declared.table.RuleTerm.{RuleTerm}
 use Rattle.proof_tree.specs.declared.table.RuleTerm.TheVariants.{Pair, ProjectFst, ProjectSnd, Unit, Function, Application, Ident, OrLeft, OrRight, Case, Abort, LetIn, Sorry, Premiss}
-use Rattle.proof_tree.specs.declared.table.PremissMode.{PremissMode}
-use Rattle.proof_tree.specs.declared.table.PremissMode.TheVariants as mode
 use Rattle.proof_tree.specs.declared.table.Row.{Row}
 
 unfoldable pub mode_of : ReasoningMode → export.Place
@@ -72,10 +70,9 @@ most (exactly n) = n
 most one_or_more = 255
 
 -- the mode of a premiss, by its step's own mode
-unfoldable pub premiss_mode : export.Place → PremissMode → export.Place
-premiss_mode own mode.Own = own
-premiss_mode own mode.Checking = checking
-premiss_mode own mode.Inferring = inferring
+unfoldable pub premiss_mode : export.Place → Option ReasoningMode → export.Place
+premiss_mode own None = own
+premiss_mode own (Some m) = mode_of m
 
 -- the row of a rule
 pub record TableRow (r : ProofTreeRule) (w : Row) : Type 0 where

@@ -5,7 +5,7 @@ ghost use Rattle.definitions.specs.Export.{admits_count};
 ghost use Rattle.proof_tree.specs.Table.{mode_of, premiss_mode, TableRow};
 
 use Ending::{Ascribed, Bare, DatatypeLabelled, LeftLabelled, PremissOwn};
-use PremissMode::{Checking, Inferring, Own};
+use ReasoningMode::{Checking, Inferring};
 use RuleTerm::{
     Abort, Application, Case, Function, Ident, LetIn, OrLeft, OrRight, Pair, Premiss, ProjectFst,
     ProjectSnd, Sorry, Unit,
@@ -48,19 +48,11 @@ pub enum RuleTerm {
     Premiss,
 }
 
-// The mode of a premiss: its step's own, or one of the two.
-#[derive(Clone, Copy)]
-pub enum PremissMode {
-    Own,
-    Checking,
-    Inferring,
-}
-
-// A row of the table: the modes of the premisses that are read, which are as many as there must be; the most that there may be; what
-// becomes of the step's term; the term.
+// A row of the table: the modes of the premisses that are read, which are as many as there must be, none for the step's own; the most
+// that there may be; what becomes of the step's term; the term.
 #[derive(Clone, Copy)]
 pub struct Row {
-    pub modes: &'static [PremissMode],
+    pub modes: &'static [Option<ReasoningMode>],
     pub most: u8,
     pub ending: Ending,
     pub term: RuleTerm,
@@ -81,23 +73,23 @@ macro_rules! row {
 // A row for each rule, in the order of their bytes, so that a rule's byte, which the steps have, is its place. They lie behind a
 // reference: an index into an array would lay all of them in the frame of each level of the walk, 416 bytes more.
 const ROWS: &[Row] = &[
-    row!(&[Own, Own], 2, Bare, Pair), // AndIntro
-    row!(&[Inferring], 1, Bare, ProjectFst), // AndElimFst
-    row!(&[Inferring], 1, Bare, ProjectSnd), // AndElimSnd
+    row!(&[None, None], 2, Bare, Pair), // AndIntro
+    row!(&[Some(Inferring)], 1, Bare, ProjectFst), // AndElimFst
+    row!(&[Some(Inferring)], 1, Bare, ProjectSnd), // AndElimSnd
     row!(&[], u8::MAX, Bare, Unit), // TrueIntro
-    row!(&[Own], 1, LeftLabelled, Function), // ImplIntro
-    row!(&[Inferring, Checking], 2, Bare, Application), // ImplElim
+    row!(&[None], 1, LeftLabelled, Function), // ImplIntro
+    row!(&[Some(Inferring), Some(Checking)], 2, Bare, Application), // ImplElim
     row!(&[], u8::MAX, Bare, Ident), // Ident
-    row!(&[Checking], 1, Ascribed, OrLeft), // OrIntroFst
-    row!(&[Checking], 1, Ascribed, OrRight), // OrIntroSnd
-    row!(&[Inferring, Own, Own], 3, Bare, Case), // OrElim
-    row!(&[Checking], 1, Ascribed, Abort), // FalsumElim
-    row!(&[Own], 1, DatatypeLabelled, Function), // ForAllIntro
-    row!(&[Inferring, Checking], 2, Bare, Application), // ForAllElim
-    row!(&[Checking, Checking], 2, Ascribed, Pair), // ExistsIntro
-    row!(&[Inferring, Own], 2, Bare, LetIn), // ExistsElim
+    row!(&[Some(Checking)], 1, Ascribed, OrLeft), // OrIntroFst
+    row!(&[Some(Checking)], 1, Ascribed, OrRight), // OrIntroSnd
+    row!(&[Some(Inferring), None, None], 3, Bare, Case), // OrElim
+    row!(&[Some(Checking)], 1, Ascribed, Abort), // FalsumElim
+    row!(&[None], 1, DatatypeLabelled, Function), // ForAllIntro
+    row!(&[Some(Inferring), Some(Checking)], 2, Bare, Application), // ForAllElim
+    row!(&[Some(Checking), Some(Checking)], 2, Ascribed, Pair), // ExistsIntro
+    row!(&[Some(Inferring), None], 2, Bare, LetIn), // ExistsElim
     row!(&[], u8::MAX, Ascribed, Sorry), // Sorry
-    row!(&[Own], u8::MAX, PremissOwn, Premiss), // AlphaEquivalent
+    row!(&[None], u8::MAX, PremissOwn, Premiss), // AlphaEquivalent
 ];
 
 // The row of the rule of a byte.
@@ -107,20 +99,6 @@ pub fn row_of(rule: u8) -> Row
     ensures { TableRow (get_or rules rule Sorry) result }
 {
     ROWS[rule as usize]
-}
-
-impl PremissMode {
-    // The mode of the premiss of a step that is placed in its own.
-    #[tactic(auto, unfolding(crate::specs::Table::mode_of, crate::specs::Table::premiss_mode))]
-    pub fn below(self, own: ReasoningMode) -> ReasoningMode
-        ensures { mode_of result ≡ premiss_mode (mode_of own) self }
-    {
-        match self {
-            PremissMode::Checking => ReasoningMode::Checking,
-            PremissMode::Inferring => ReasoningMode::Inferring,
-            PremissMode::Own => own,
-        }
-    }
 }
 
 impl Row {

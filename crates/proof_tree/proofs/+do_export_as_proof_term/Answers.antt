@@ -1,6 +1,6 @@
 -- What is left of the premisses decides what they all come to. The calls end by the step's number.
 use Prim.Native.Nat.{ℕ, ◌+◌, ◌≤◌, ◌<◌}
-use mathlib.Core.Path.{◌≡◌, refl, sym, ◌∙◌}
+use mathlib.Core.Path.{◌≡◌, refl, sym, ap, ◌∙◌}
 use mathlib.Core.Bool.{false}
 use native.Mathlib.Omega.{arith}
 use lib.ListN.{length, get_or}
@@ -16,7 +16,7 @@ use Rattle.proof_tree.specs.Exportable.{GoodStep}
 use Rattle.proof_tree.specs.Exporting.{ExportableWith}
 use Rattle.proof_tree.proofs.Counts.{enough}
 use Rattle.proof_tree.proofs.Placing.{counted_refused}
-use Rattle.proof_tree.proofs.ReadPremisses.{read_none, read_more, read_refused, room_next, read_parts}
+use Rattle.proof_tree.proofs.ReadPremisses.{mode_below, read_none, read_more, read_refused, room_next, read_parts}
 use Rattle.proof_tree.proofs.Walking.{term_of, refusal_of, refused_as, size_tree, count_refused, Entered, premiss_refused, step_placed}
 use Rattle.proof_tree.proofs.+do_export_as_proof_term.Goals as goal
 use Rattle.proof_tree.proofs.+do_export_as_proof_term.Goals.{Start, After-row_of-row, Else-not-admits_count}
@@ -87,7 +87,7 @@ do_export_as_proof_term-requires t c =
     let s = c.args.steps.now in
     let read = c.loop-i.invariant.0 s.names s.exportable in
     let step = c.premiss.ensures in
-    let room = room_next row read c.loop-i-test.true step c.below.ensures in
+    let room = room_next row read c.loop-i-test.true step (ap mode_of c.unwrap_or.ensures ∙ mode_below _ _) in
     let within : c.premiss.result < s.count = omega (arith, step.earlier, c.requires.k_in_bounds) in
     let size = s.exportable.table.sizes s.names s.pairs.now s.code.now c.premiss.result within in (
       omega (arith, step.earlier, c.decreases),
@@ -109,7 +109,7 @@ returns-in_err-do_export_as_proof_term t c =
           let there = entered t (goal.at.returns-in_err-do_export_as_proof_term t c).Else-not-admits_count e in
           refused_as (counted_refused _ (search rules))
           (premiss_refused (mode_of _) there
-          (read_refused there.is_row (c.loop-i.invariant.0 names e) c.loop-i-test.true c.premiss.ensures c.below.ensures
+          (read_refused there.is_row (c.loop-i.invariant.0 names e) c.loop-i-test.true c.premiss.ensures (ap mode_of c.unwrap_or.ensures ∙ mode_below _ _)
           (refusal_of (refuses.changed names e) refl)));
       same_memory = refuses.same_memory ∙ c.loop-i.invariant.1;
       same_length = refuses.same_length ∙ (c.loop-i.invariant.0 s.names s.exportable).same;
@@ -124,7 +124,7 @@ overflow_cast-parts t c =
     let at = goal.at.overflow_cast-parts t c in
     let row = (entered_some t at.Else-not-admits_count).is_row in
     let s = c.args.steps.now in
-    let room = room_next row (c.loop-i.invariant.0 s.names s.exportable) c.loop-i-test.true c.premiss.ensures c.below.ensures in
+    let room = room_next row (c.loop-i.invariant.0 s.names s.exportable) c.loop-i-test.true c.premiss.ensures (ap mode_of c.unwrap_or.ensures ∙ mode_below _ _) in
     let read = term_of (c.in_ok-do_export_as_proof_term.ensures.changed s.names s.exportable) refl in
     record { fits = omega (arith, room, sized t at.Start, read.high, read.low, c.requires.room_for.few) }
 
@@ -135,7 +135,7 @@ loop-i-preserved t c =
       λ names e.
           let there = entered t (goal.at.loop-i-preserved t c).Else-not-admits_count e in
           read_more there.is_row (c.loop-i.invariant.0 names e) c.loop-i-test.true step
-          c.below.ensures
+          (ap mode_of c.unwrap_or.ensures ∙ mode_below _ _)
           (term_of (made.changed names e) refl)
           (omega (arith, step.earlier)) made.same_length,
       made.same_memory ∙ c.loop-i.invariant.1,
