@@ -70,9 +70,9 @@ macro_rules! row {
     };
 }
 
-// A row for each rule, in the order of their bytes, so that a rule's byte, which the steps have, is its place. They lie behind a
-// reference: an index into an array would lay all of them in the frame of each level of the walk, 416 bytes more.
-const ROWS: &[Row] = &[
+// A row for each rule, in the order of their bytes, so that a rule's byte, which the steps have, is its place. A look reads one row of
+// the static, which no frame of the walk holds.
+static ROWS: [Row; 17] = [
     row!(&[None, None], 2, Bare, Pair), // AndIntro
     row!(&[Some(Inferring)], 1, Bare, ProjectFst), // AndElimFst
     row!(&[Some(Inferring)], 1, Bare, ProjectSnd), // AndElimSnd
