@@ -30,12 +30,12 @@ pub const TALLY: usize = RECORD_SIZE - 1;
 
 const TALLY_LIMIT: usize = u16::MAX as usize;
 
-// The kinds of labels: none, a proposition by the number that stands for it, a datatype by its name.
-pub const NO_LABEL: usize = 0;
+// The kinds of labels, as records keep them: none, a proposition by the number that stands for it, a datatype by its name.
+pub const NO_LABEL: u16 = 0;
 
-pub const PROPOSITION: usize = 1;
+pub const PROPOSITION: u16 = 1;
 
-pub const DATATYPE: usize = 2;
+pub const DATATYPE: u16 = 2;
 
 // Stores record `used` of a node and gives the number of the next one. Below, `make` sums the tally. The reader of terms hands its own:
 // what it has in hand counts its labels, and by `make` each of its terms would owe that its parts are earlier records, which keep these

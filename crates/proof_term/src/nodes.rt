@@ -25,7 +25,8 @@ pub enum Kind {
 }
 
 impl Kind {
-    // The kind of a number. It is the arm of a match and no entry of a table, which each look would lay down in the frame of a walk.
+    // The kind of a number. A static of the kinds in this order would be as long, and an unknown number would
+    // still have to be told apart.
     #[tactic(auto, unfolding(crate::specs::Views::kind_of), using(crate::proofs::Views::kind_unknown))]
     pub fn of(number: usize) -> Kind
         ensures { result ≡ kind_of number }
@@ -137,8 +138,8 @@ impl Label {
         ensures { result ≡ label_numbers self }
     {
         match self {
-            Label::Proposition(number) => (PROPOSITION as u16, number),
-            Label::Datatype(name) => (DATATYPE as u16, name),
+            Label::Proposition(number) => (PROPOSITION, number),
+            Label::Datatype(name) => (DATATYPE, name),
         }
     }
 }
@@ -190,7 +191,7 @@ impl Node {
             } => {
                 let (kind, number) = match label {
                     Some(l) => l.numbers(),
-                    None => (NO_LABEL as u16, 0),
+                    None => (NO_LABEL, 0),
                 };
                 [body, parameter, kind, number, 0]
             }
@@ -227,7 +228,7 @@ impl Node {
 fn label_of_numbers(kind: u16, number: u16) -> Label
     ensures { result ≡ label_of_numbers kind number }
 {
-    if usize::from(kind) == DATATYPE {
+    if kind == DATATYPE {
         return Label::Datatype(number);
     }
     Label::Proposition(number)
@@ -238,7 +239,7 @@ fn label_of_numbers(kind: u16, number: u16) -> Label
 fn parameter_of_numbers(kind: u16, number: u16) -> Option<Label>
     ensures { result ≡ parameter_of_numbers kind number }
 {
-    if usize::from(kind) == NO_LABEL {
+    if kind == NO_LABEL {
         return None;
     }
     Some(label_of_numbers(kind, number))

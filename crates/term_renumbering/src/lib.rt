@@ -6,12 +6,12 @@ ghost use Rattle.proof_term.specs.Records.{record_size};
 ghost use Rattle.renumbering.specs.Renumbered.{mapped};
 ghost use Rattle.term_renumbering.specs.Over.{is_name, number_over, Over, RecordsOver};
 
-use proof_term::{DATATYPE, Kind, RECORD_SIZE, field, kind_at};
+use proof_term::{DATATYPE, Kind, RECORD_SIZE, kind_at};
 
 // Whether number `i` of a record of a kind is a name, by the kind of its label: a label's number is one if it is a datatype. A record is
 // no `Node` here, whose `numbers` are 0 where its kind has none: whatever a record holds, each number that is no name stays as it is.
 #[tactic(auto, unfolding(crate::specs::Over::is_name))]
-fn is_name(kind: Kind, label: usize, i: usize) -> bool
+fn is_name(kind: Kind, label: u16, i: usize) -> bool
     ensures { result ≡ is_name kind label i }
 {
     match kind {
@@ -26,7 +26,7 @@ fn is_name(kind: Kind, label: usize, i: usize) -> bool
 
 // Number `i` of a record: what the map has for it if it is a name, and 0 past its end; else the number itself.
 #[tactic(auto, unfolding(crate::specs::Over::number_over, renumbering::specs::Renumbered::mapped))]
-fn number_over(numbers: &[u16], kind: Kind, label: usize, i: usize, number: u16) -> u16
+fn number_over(numbers: &[u16], kind: Kind, label: u16, i: usize, number: u16) -> u16
     ensures { result ≡ number_over (mapped numbers.now) kind label i number }
 {
     if is_name(kind, label, i) {
@@ -41,7 +41,7 @@ fn renumber_record(row: &mut [u16], numbers: &[u16])
     ensures { Over (mapped numbers.now) row.old 0 row.new }
 {
     let kind = kind_at(row, 0);
-    let label = field(row, 0, 3);
+    let label = row[3];
     for (i, number) in row.iter_mut().enumerate() {
         *number = number_over(numbers, kind, label, i, *number);
     }
