@@ -1,7 +1,7 @@
 -- The records of bytes with a header hold every step; the column of a step that is not there is 0.
 use Prim.Native.Nat.{ℕ, ◌+◌, ◌*◌, ◌≤◌, ◌<◌}
 use mathlib.Core.Path.{sym, ◌≡◌, ap, ◌∙◌}
-use mathlib.Core.Bool.{true}
+use mathlib.Core.Bool.{Bool, true, false}
 use mathlib.Core.List.{List}
 use native.Mathlib.Omega.{arith}
 use borrow.Author.Tests.{le-ltb}
@@ -11,7 +11,8 @@ use Rattle.definitions.specs.Answers.{names_step, column_of, located}
 use Rattle.definitions.specs.Sheet.{header_size, step_size, number_at, step_number, column, steps, name_pairs_start, proposition_pairs_start, steps_start, text_start, code_start, sheet_length, step_records}
 use Rattle.steps.specs.Records.{HasStep}
 use Rattle.sheet.specs.declared.header.Sheet.{Sheet}
-use Rattle.std.specs.Prelude.{Result, Ok, ℕ}
+use Rattle.std.specs.Prelude.{Result, Ok, Option, Some, None, is_some, unwrap_or, ℕ}
+use Rattle.std.specs.Result.{result_ok}
 use Rattle.sheet.specs.Header.{header_of, HasHeader}
 use Rattle.sheet.specs.Checks.{answered, short_check}
 use Rattle.sheet.proofs.Slices.{lengths}
@@ -37,9 +38,18 @@ module _ {s : List ℕ} (has : HasHeader s (header_of s)) where
   whole_header = omega (arith, has.whole)
 
   -- reading it finds no byte missing
-  pub header_accepted : {r : Result Sheet Refusal} → r ≡ answered (header_of s) (short_check s) → r ≡ Ok (header_of s)
+  header_accepted : {r : Result Sheet Refusal} → r ≡ answered (header_of s) (short_check s) → r ≡ Ok (header_of s)
   unfolding answered short_check
   header_accepted e = e ∙ ap (answered (header_of s)) (sym (not_refused_if 1 0 (le-ltb _ _ whole_header)))
+
+  module _ {r : Result Sheet Refusal} (read : r ≡ answered (header_of s) (short_check s)) where
+    pub header_some : {h : Sheet} → Some h ≡ result_ok r → h ≡ header_of s
+    header_some {h} given = ap (λ o. unwrap_or o h) (given ∙ ap result_ok (header_accepted read))
+
+    pub not_none : None ≡ result_ok r → ⊥
+    not_none given =
+        let z : ◌≡◌ {A = Bool} false true = ap is_some (given ∙ ap result_ok (header_accepted read)) in
+        grind arith
 
   -- the header as it was read
   module _ {h : Sheet} (is : h ≡ header_of s) where

@@ -27,10 +27,7 @@ fn column_at(s: &[u8], k: usize) -> Option<u16>
     requires { HasHeader s.now (header_of s.now) }
     ensures { unwrap_or result 0 ≡ column (step_records s.now) k }
 {
-    let read = Sheet::header(s);
-    let Ok(h) = read else {
-        return None;
-    };
+    let h = Sheet::header(s).ok()?;
     if h.steps <= k {
         return None;
     }
