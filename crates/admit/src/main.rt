@@ -1,11 +1,12 @@
 // Says of each file that its arguments name whether it holds a sheet, or which of refusals 1 to 11 it meets.
 #![tactic(auto)]
 
+use sheet::Sheet;
 use std::rt::Files;
 use std::{env, io};
 
-// More bytes than the longest sheet has. A file is read no further.
-const ROOM: usize = 65536;
+// One byte more than the longest sheet has. A file is read no further: a longer one has the answer of its first part.
+const ROOM: usize = Sheet::LENGTH_LIMIT + 1;
 
 // A line for a file: its name and the answer for its bytes, which are none where it cannot be read.
 fn answer_file(rt: &(impl Files + Print), path: &str) -> io::Result<()> {
