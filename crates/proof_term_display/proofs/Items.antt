@@ -22,15 +22,7 @@ module _ (format : List ℕ) (i : ℕ) where
   unfolding items
   items_past h = rw (drop_of_length-le format h)
 
--- a byte between two
-both : (a b : Bool) → a && b ≡ true → (a ≡ true) × (b ≡ true)
-both true b e = (refl, e)
-both false b e = absurd (grind arith)
-
-pub between : (first b last : ℕ) → leb first b && leb b last ≡ true → (first ≤ b) × (b ≤ last)
-between first b last e = let h = both (leb first b) (leb b last) e in (leb-true first b h.0, leb-true b last h.1)
-
--- and one that is not
+-- a byte that is not between two
 not_both : (a b : Bool) → (a ≡ true → b ≡ true → ⊥) → a && b ≡ false
 not_both true true h = absurd (h refl refl)
 not_both true false h = refl
@@ -39,10 +31,12 @@ not_both false b h = refl
 not_between : (first b last : ℕ) → (first ≤ b → b ≤ last → ⊥) → leb first b && leb b last ≡ false
 not_between first b last h = not_both (leb first b) (leb b last) (λ e f. h (leb-true first b e) (leb-true b last f))
 
-outside : (first b last : ℕ) → leb first b && leb b last ≡ false → first ≤ b → b ≤ last → ⊥
-outside first b last e h k =
-    let z : ◌≡◌ {A = Bool} true false = rw (le-leb first b h, le-leb b last k) at e in
-    grind arith
+-- The bytes from 1 to 5, and those before and behind them.
+pub digit : (b : ℕ) → 49 ≤ b → b < 54 → leb 49 b && leb b 53 ≡ true
+digit b h k = rw (le-leb 49 b h, le-leb b 53 (omega arith)) refl
+
+pub no_digit : (b : ℕ) → (49 ≤ b → b < 54 → ⊥) → leb 49 b && leb b 53 ≡ false
+no_digit b h = not_between 49 b 53 (λ low high. h low (omega arith))
 
 -- there are nine parts
 part_few : (which : TermPart) → part_number which < 9
@@ -81,9 +75,3 @@ module _ (b : ℕ) where
     pub item_fixed : leb 65 b && leb b 73 ≡ false → (b ≡ 76 → ⊥) → (b ≡ 77 → ⊥) → item_of b ≡ fixed b
     unfolding item_of
     item_fixed no_part h k = rw (no_name, no_part, ne_eqb b 76 h, ne_eqb b 77 k)
-
-  pub item_outside : leb 49 b && leb b 77 ≡ false → item_of b ≡ fixed b
-  item_outside e =
-      let past = outside 49 b 77 e in
-      item_fixed (not_between 49 b 53 (λ h k. past h (omega arith))) (not_between 65 b 73 (λ h k. past (omega arith) (omega arith)))
-      (λ h. past (omega arith) (omega arith)) (λ h. past (omega arith) (omega arith))

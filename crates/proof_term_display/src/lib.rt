@@ -267,42 +267,25 @@ fn put_part<S: Sink<u8>>(sink: &mut S, p: &Printer, n: usize, which: TermPart)
     put_bracket(sink, b')', bracketed);
 }
 
-// Whether a byte lies from the first to the last of a run.
-fn is_between(b: u8, first: u8, last: u8) -> bool
-    ensures { result ≡ leb first b && leb b last }
-{
-    (first..=last).contains(&b)
-}
-
-// What a byte of a format stands for in record `n`. One test tells most of the bytes that stand for themselves: those outside 1 to M.
+// What a byte of a format stands for in record `n`.
 #[cycle(put_node)]
 fn put_item<S: Sink<u8>>(sink: &mut S, p: &Printer, n: usize, b: u8)
     requires has_term { HasTerm p.now n }
     requires has_item { HasItem p.now n (item_of b) }
     ensures { S.puts sink.old (text_of_item p.now n (item_of b)) sink.new }
 {
-    if !is_between(b, b'1', b'M') {
-        sink.put(b);
-        return;
+    match b {
+        b'1'..=b'5' => {
+            let number = field(p.records, n, (b - b'0') as usize);
+            sink.put_all(p.propositions.memory.name(number));
+        }
+        b'L' => put_parameter_label(sink, parameter_at(p.records, n), &p.propositions),
+        b'M' => put_label(sink, label_at(p.records, n), &p.propositions),
+        _ => match TermPart::of_letter(b) {
+            Some(which) => put_part(sink, p, n, which),
+            None => sink.put(b),
+        },
     }
-    if is_between(b, b'1', b'5') {
-        let number = field(p.records, n, (b - b'0') as usize);
-        sink.put_all(p.propositions.memory.name(number));
-        return;
-    }
-    if let Some(which) = TermPart::of_letter(b) {
-        put_part(sink, p, n, which);
-        return;
-    }
-    if b == b'L' {
-        put_parameter_label(sink, parameter_at(p.records, n), &p.propositions);
-        return;
-    }
-    if b == b'M' {
-        put_label(sink, label_at(p.records, n), &p.propositions);
-        return;
-    }
-    sink.put(b);
 }
 
 // The term of record `n`, item by item of its kind's format.

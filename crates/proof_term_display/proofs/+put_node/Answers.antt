@@ -11,14 +11,14 @@ use Rattle.proof_term_display.specs.Format.{part_field, part_number, item_text}
 use Rattle.proof_term_display.specs.Printer.{HasTerm}
 use Rattle.proof_term_display.specs.Item.{ItemReady}
 use Rattle.proof_term_display.proofs.Tables.{part_field_below, at_position, kind_seen}
-use Rattle.proof_term_display.proofs.Items.{between, item_outside, item_name, item_part, item_fixed}
+use Rattle.proof_term_display.proofs.Items.{digit, no_digit, item_name, item_part, item_fixed}
 use Rattle.proof_term_display.proofs.Items.{item_of_parameter, item_of_ascription}
 use Rattle.proof_term_display.proofs.Labels.{printable_label, printable_parameter, label_shown, parameter_label_shown}
 use Rattle.proof_term_display.proofs.Progress.{start, ends_past, item_ready, goes_on}
 use Rattle.proof_term_display.proofs.Parts.{unit_text, printable_part}
 use Rattle.proof_term_display.proofs.Ascriptions.{not_after, body_held, body_printable, label_printable, part_written}
 use Rattle.proof_term_display.proofs.+put_node.Goals as goal
-use Rattle.proof_term_display.proofs.+put_node.Goals.{put_part-After-field-number, put_part-Else-n-number, put_item-After-of_letter, put_item-Then-is_between}
+use Rattle.proof_term_display.proofs.+put_node.Goals.{put_part-After-field-number, put_part-Else-n-number}
 
 -- the part's number, and what it takes to print it
 number_is : (g : _) (t : ℕ) → (c : put_part-After-field-number g t) → let s = c.args in
@@ -73,78 +73,51 @@ pub put_node-loop-b-init : goal.put_node-loop-b-init
 put_node-loop-b-init g t c =
     start _ _ _ _ _ _ g.met.S.Sink.laws c.requires (kind_seen c.args.p.now.records.now c.args.n c.kind_at.ensures) c.format_of-b-items.ensures
 
--- what the tests tell
-is_name : (g : _) (t : ℕ) → (c : put_item-Then-is_between g t) → let b = c.args.b in leb 49 b && leb b 53 ≡ true
-is_name g t c = sym c.is_between-2.ensures ∙ c.if-is_between.true
-
-no_name : (g : _) (t : ℕ) → (c : put_item-After-of_letter g t) → let b = c.args.b in
-    leb 49 b && leb b 53 ≡ false
-no_name g t c = sym c.is_between-2.ensures ∙ c.if-is_between.false
-
-name_range : (g : _) (t : ℕ) → (c : put_item-Then-is_between g t) → let b = c.args.b in (49 ≤ b) × (b ≤ 53)
-name_range g t c = between 49 c.args.b 53 (is_name g t c)
-
-pub put_item-returns-then-not-is_between : goal.put_item-returns-then-not-is_between
-unfolding item_text
-put_item-returns-then-not-is_between g t c =
-    let outside = sym c.is_between.ensures ∙ c.if-not-is_between.true in
-    rw (item_outside _ outside) c.put.ensures
-
 pub put_item-name-requires : goal.put_item-name-requires
 unfolding ItemReady
 put_item-name-requires g t c =
-    let below = rw (item_name c.args.b (is_name g t (goal.at.put_item-name-requires g t c).Then-is_between)) at c.requires.has_item in
+    let below = rw (item_name c.args.b (digit c.args.b (omega arith) (omega arith))) at c.requires.has_item in
     c.requires.has_term.named _ (below_as {b = field_at c.args.p.now.records.now c.args.n (c.args.b - 48)} c.field-number.ensures.0 below)
 
-pub put_item-returns-then-is_between : goal.put_item-returns-then-is_between
+pub put_item-returns-in-49-to-53 : goal.put_item-returns-in-49-to-53
 unfolding item_text
-put_item-returns-then-is_between g t c =
-    rw (item_name _ (is_name g t (goal.at.put_item-returns-then-is_between g t c).Then-is_between), ← c.field-number.ensures.0, ← c.name.ensures)
-    c.put_all.ensures
+put_item-returns-in-49-to-53 g t c =
+    rw (item_name _ (digit c.args.b (omega arith) (omega arith)), ← c.field-number.ensures.0, ← c.name.ensures) c.put_all.ensures
 
 pub put_item-put_part-requires : goal.put_item-put_part-requires
 put_item-put_part-requires g t c =
-    let ready = rw (item_part c.args.b (no_name g t (goal.at.put_item-put_part-requires g t c).After-of_letter) _ c.in-Some.ensures) at c.requires.has_item in
+    let ready = rw (item_part c.args.b (no_digit c.args.b (λ h k. omega (arith, c.in_default.branch))) _ c.in-Some.ensures) at c.requires.has_item in
     λ κs lives. (omega (arith, c.decreases), (lives, (c.requires.has_term, ready)))
 
 pub put_item-returns-in-Some : goal.put_item-returns-in-Some
 put_item-returns-in-Some g t c =
-    rw (item_part _ (no_name g t (goal.at.put_item-returns-in-Some g t c).After-of_letter) _ c.in-Some.ensures) c.put_part.ensures
+    rw (item_part _ (no_digit c.args.b (λ h k. omega (arith, c.in_default.branch))) _ c.in-Some.ensures) c.put_part.ensures
 
 pub put_item-put_parameter_label-requires : goal.put_item-put_parameter_label-requires
 unfolding ItemReady
 put_item-put_parameter_label-requires g t c =
-    printable_parameter c.requires.has_term (rw (item_of_parameter c.args.b c.if-b-eq76.true) at c.requires.has_item) _ c.parameter_at.ensures
+    printable_parameter c.requires.has_term (rw (item_of_parameter c.args.b c.in-76.is) at c.requires.has_item) _ c.parameter_at.ensures
 
-pub put_item-returns-then-b-eq76 : goal.put_item-returns-then-b-eq76
+pub put_item-returns-in-76 : goal.put_item-returns-in-76
 unfolding item_text
-put_item-returns-then-b-eq76 g t c =
-    rw (item_of_parameter _ c.if-b-eq76.true, ← (parameter_label_shown c.args.p.now.propositions.memory.bytes.now c.args.p.now.propositions.memory.vocabulary c.args.p.now.records.now c.args.n c.parameter_at.ensures))
+put_item-returns-in-76 g t c =
+    rw (item_of_parameter _ c.in-76.is, ← (parameter_label_shown c.args.p.now.propositions.memory.bytes.now c.args.p.now.propositions.memory.vocabulary c.args.p.now.records.now c.args.n c.parameter_at.ensures))
     c.put_parameter_label.ensures
 
 pub put_item-put_label-requires : goal.put_item-put_label-requires
 unfolding ItemReady
 put_item-put_label-requires g t c =
-    printable_label c.requires.has_term (rw (item_of_ascription c.args.b c.if-b-eq77.true) at c.requires.has_item) (sym c.label_at.ensures)
+    printable_label c.requires.has_term (rw (item_of_ascription c.args.b c.in-77.is) at c.requires.has_item) (sym c.label_at.ensures)
 
-pub put_item-returns-then-b-eq77 : goal.put_item-returns-then-b-eq77
+pub put_item-returns-in-77 : goal.put_item-returns-in-77
 unfolding item_text
-put_item-returns-then-b-eq77 g t c =
-    rw (item_of_ascription _ c.if-b-eq77.true, ← (label_shown c.args.p.now.propositions.memory.bytes.now c.args.p.now.propositions.memory.vocabulary c.args.p.now.records.now c.args.n c.label_at.ensures))
+put_item-returns-in-77 g t c =
+    rw (item_of_ascription _ c.in-77.is, ← (label_shown c.args.p.now.propositions.memory.bytes.now c.args.p.now.propositions.memory.vocabulary c.args.p.now.records.now c.args.n c.label_at.ensures))
     c.put_label.ensures
 
-pub put_item-returns : goal.put_item-returns
+pub put_item-returns-in-None : goal.put_item-returns-in-None
 unfolding item_text
-put_item-returns g t c =
-    let no_part = c.in_default.ensures in
-    rw (item_fixed _ (no_name g t (goal.at.put_item-returns g t c).After-of_letter) no_part c.if-b-eq76.false c.if-b-eq77.false)
-    c.put-2.ensures
-
-pub put_item-overflow_sub-b : goal.put_item-overflow_sub-b
-put_item-overflow_sub-b g t c = omega (arith, name_range g t (goal.at.put_item-overflow_sub-b g t c).Then-is_between)
-
-pub put_item-overflow_cast-b : goal.put_item-overflow_cast-b
-put_item-overflow_cast-b g t c = omega (arith, name_range g t (goal.at.put_item-overflow_cast-b g t c).Then-is_between)
-
-pub put_item-field-number-requires : goal.put_item-field-number-requires
-put_item-field-number-requires g t c = (c.requires.has_term.held, omega (arith, name_range g t (goal.at.put_item-field-number-requires g t c).Then-is_between))
+put_item-returns-in-None g t c =
+    let no_part = c.in-None.ensures in
+    rw (item_fixed c.args.b (no_digit c.args.b (λ h k. omega (arith, c.in_default.branch))) no_part (λ h. omega (arith, h, c.in_default.branch)) (λ h. omega (arith, h, c.in_default.branch)))
+    c.put.ensures
