@@ -27,6 +27,8 @@ fn may_follow(earlier: &[&[u8]], name: &[u8]) -> bool
 pub fn count_names(text: &[u8]) -> Option<usize>
     ensures { result ≡ count_of (names_in text.now) }
 {
+    // There is no heap, so that the names so far are the first `count` of an array. An `output::Writer` over it would count them the same, as
+    // its position, and past the end too.
     let mut names = [text; NAME_LIMIT];
     let mut count = 0;
     for name in names_in(text) {
