@@ -49,8 +49,8 @@ pub struct PropRead {
     pub own: bool,
 }
 
-// The readers are given `names`, `bound`, `code` and the place apart: a struct of them would hold three `&mut`, and each reader
-// would also have to promise that these stay the same references. `Begins` says of all of them at once what is required.
+// The readers are given `names`, `bound`, `code` and the place apart: a struct of them would hold two `&mut`, `names` and `code`, and
+// of such a struct a caller does not know at its end what the memories hold. `Begins` says of all of them at once what is required.
 
 // One parameter of an atom: a name, bound by a quantifier or not.
 fn read_parameter(

@@ -20,7 +20,9 @@ ghost use Rattle.checkable.specs.Terms.{own_checkable, LabelsPresent};
 use prefix_code::{Head, ParameterKind, known_end, known_head_end};
 use proof_term::{Kind, Label, node_at, parts_at};
 
-// Code and the count of its names stand loose, as in prefix_code.
+// Code and the count of its names stand loose. Callers have the one as a part of a sheet's bytes and the other in its header,
+// and what is asked of both is handed on to prefix_code, which takes them so: a struct of both would be made by each caller to be taken
+// apart again here.
 
 // Whether each of so many parameters from `at` on is instantiated. As long as they are, each has the size of one.
 fn are_instantiated(code: &[u8], at: usize, count: usize) -> bool

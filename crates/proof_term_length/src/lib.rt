@@ -45,8 +45,8 @@ fn make_row(own: usize, names: &'static [usize], parts: &'static [TermPart]) -> 
     Row { own, names, parts }
 }
 
-// The row of each kind of record. The formats of the printing say the same byte by byte, and a measure that went through them would look
-// at each byte of a format for each record.
+// The row of each kind of record. The formats of the printing say the same byte by byte. To measure by them, each byte would be told apart
+// once more as `put_item` of proof_term_display does, as a name, a part, a label or itself, which is longer than these rows.
 fn row_of(kind: Kind) -> Row
     ensures { seen result ≡ row_of kind }
 {
