@@ -110,7 +110,12 @@ fn do_export_as_proof_term(
     }
     let mut parts = [0u16; 3];
     for (i, &premiss_mode) in row.modes.iter().enumerate() {
-        do_export_as_proof_term(steps, premiss(steps, k, i), premiss_mode.unwrap_or(mode), terms)?;
+        do_export_as_proof_term(
+            steps,
+            premiss(steps, k, i),
+            premiss_mode.unwrap_or(mode),
+            terms,
+        )?;
         parts[i] = (terms.used - 1) as u16;
     }
     placed_term(steps, k, mode, row, parts, terms)

@@ -6,4 +6,3 @@ use Rattle.located.proofs.locate.Goals as goal
 pub returns-then-names_step : goal.returns-then-names_step
 returns-then-names_step c =
     with_column _ _ (sym c.names_step.ensures ∙ c.if-names_step.true) (c.unwrap_or-column.ensures ∙ c.column_at.ensures)
-
