@@ -11,8 +11,8 @@ use borrow.Author.Tests.{leb-true}
 use Rattle.definitions.specs.Utf8.{utf8}
 use Rattle.definitions.specs.Name.{Name, is_name, eq_name}
 use Rattle.definitions.specs.Sheet.{name_length_limit}
-use Rattle.definitions.specs.TermText.{keywords, is_admitted}
-use Rattle.definitions.specs.CallerNames.{newline, in_front, pieces, names_in, well_formed}
+use Rattle.definitions.specs.TermText.{is_admitted}
+use Rattle.definitions.specs.CallerNames.{well_formed}
 use Rattle.definitions.specs.Term.{fst, snd, inl, inr, abort}
 use Rattle.definitions.specs.TermReader.{named, name, expect, if_read, Start, fn_word, case_word, let_word, sorry_word, no_word, call_word, start_of, is_sorry, is_open, argument_begins, argument_follows}
 use Rattle.definitions.proofs.Names.{eq_name_true}
@@ -30,11 +30,6 @@ unfolding well_formed
 admitted_length x e =
     let short = ((and-eq-true_iff (leb (length x) name_length_limit) _).0 (well_formed_lem x e)).0 in
     (name_some x (is_name_lem x e), leb-true _ _ short)
-
--- the words that are no names, as a list
-pub keyword_list : names_in (utf8 "fn\ncase\nof\ninl\ninr\nlet\nin\nfst\nsnd\nabort\nsorry") ≡ keywords
-unfolding names_in pieces in_front newline keywords
-keyword_list = refl
 
 pub between_length : (text : List ℕ) (at r : ℕ) → at ≤ r → r ≤ length text → length (between at r text) ≡ r - at
 unfolding between

@@ -13,7 +13,7 @@ ghost use Rattle.words.specs.Starts.{as_start};
 
 mod name_table;
 
-use caller_names::{is_listed, names_in, well_formed};
+use caller_names::{names_in, well_formed};
 use identifier::{Class, same_name};
 pub use name_table::NameTable;
 
@@ -31,13 +31,17 @@ pub fn word_end(text: &[u8], at: usize) -> usize
     at + length
 }
 
+// The words that are no names of a term.
+static KEYWORDS: [&[u8]; 11] = [
+    b"fn", b"case", b"of", b"inl", b"inr", b"let", b"in", b"fst", b"snd", b"abort", b"sorry",
+];
+
 // Whether these bytes are a name of a term: one of document 01's that is no keyword.
-#[tactic(auto, using(crate::proofs::Words::keyword_list), unfolding(definitions::specs::TermText::is_admitted))]
+#[tactic(auto, unfolding(definitions::specs::TermText::is_admitted))]
 pub fn is_admitted(name: &[u8]) -> bool
     ensures { result ≡ is_admitted name.now }
 {
-    let keywords = b"fn\ncase\nof\ninl\ninr\nlet\nin\nfst\nsnd\nabort\nsorry";
-    well_formed(name) && !is_listed(keywords, name)
+    well_formed(name) && !KEYWORDS.iter().any(|keyword| same_name(name, keyword))
 }
 
 // Whether each name of a list is admitted.
