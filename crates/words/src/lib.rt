@@ -95,40 +95,27 @@ pub enum Start {
     Other,
 }
 
+// The words that begin a term otherwise than a name does.
+static STARTS: [(&[u8], Start); 9] = [
+    (b"fn", Start::Function),
+    (b"case", Start::Case),
+    (b"let", Start::Let),
+    (b"fst", Start::Call(NamedFunction::Fst)),
+    (b"snd", Start::Call(NamedFunction::Snd)),
+    (b"inl", Start::Call(NamedFunction::Inl)),
+    (b"inr", Start::Call(NamedFunction::Inr)),
+    (b"abort", Start::Call(NamedFunction::Abort)),
+    (b"sorry", Start::Sorry),
+];
+
 // The start of a term whose first word these bytes are.
-// Tried: a `match` on byte strings leaves more than thirty goals that are not found, and these tests leave none.
-#[tactic(auto, unfolding(definitions::specs::TermReader::start_of, crate::specs::Starts::as_start, crate::specs::Starts::as_named))]
 pub fn start_of(word: &[u8]) -> Start
     ensures { result ≡ as_start (start_of word.now) }
 {
-    if same_name(word, b"fn") {
-        return Start::Function;
+    match STARTS.iter().find(|row| same_name(word, row.0)) {
+        Some(row) => row.1,
+        None => Start::Other,
     }
-    if same_name(word, b"case") {
-        return Start::Case;
-    }
-    if same_name(word, b"let") {
-        return Start::Let;
-    }
-    if same_name(word, b"fst") {
-        return Start::Call(NamedFunction::Fst);
-    }
-    if same_name(word, b"snd") {
-        return Start::Call(NamedFunction::Snd);
-    }
-    if same_name(word, b"inl") {
-        return Start::Call(NamedFunction::Inl);
-    }
-    if same_name(word, b"inr") {
-        return Start::Call(NamedFunction::Inr);
-    }
-    if same_name(word, b"abort") {
-        return Start::Call(NamedFunction::Abort);
-    }
-    if same_name(word, b"sorry") {
-        return Start::Sorry;
-    }
-    Start::Other
 }
 
 // Whether an argument follows at `at`: a blank, and then a name, `sorry` or a bracket.
