@@ -56,31 +56,26 @@ pub fn connective_at(text: &[u8], at: usize) -> Option<Connective>
         .find(|c| expect(text, at, c.text()).is_some())
 }
 
-// The sign at `at`, each looked for in turn: a `find` over the six would need their bytes as a function of the sign, which nothing else
-// asks, and so an array and a `match` of six lines each in place of the six tests.
+// The signs, each behind its bytes.
+static SIGNS: [(&[u8], Sign); 6] = [
+    (b"\xE2\x8A\xA4", Sign::Constant(Constant::Top)), // ⊤
+    (b"\xE2\x8A\xA5", Sign::Constant(Constant::Bottom)), // ⊥
+    (b"\xC2\xAC", Sign::Opening(Opening::Negation)), // ¬
+    (b"(", Sign::Opening(Opening::Bracket)),
+    (b"\xE2\x88\x80", Sign::Opening(Opening::Binder(Quantifier::ForAll))), // ∀
+    (b"\xE2\x88\x83", Sign::Opening(Opening::Binder(Quantifier::Exists))), // ∃
+];
+
+// The sign at `at`.
 pub fn sign_at(text: &[u8], at: usize) -> Option<Sign>
     requires { at ≤ length text.now }
     ensures { MatchOption result (sign (drop at text.now) ≡ None) (SignAt text.now at) }
 {
-    if expect(text, at, b"\xE2\x8A\xA4").is_some() {
-        return Some(Sign::Constant(Constant::Top));
+    let rest = &text[at..];
+    match SIGNS.iter().find(|row| rest.starts_with(row.0)) {
+        Some(row) => Some(row.1),
+        None => None,
     }
-    if expect(text, at, b"\xE2\x8A\xA5").is_some() {
-        return Some(Sign::Constant(Constant::Bottom));
-    }
-    if expect(text, at, b"\xC2\xAC").is_some() {
-        return Some(Sign::Opening(Opening::Negation));
-    }
-    if expect(text, at, b"(").is_some() {
-        return Some(Sign::Opening(Opening::Bracket));
-    }
-    if expect(text, at, Quantifier::ForAll.sign()).is_some() {
-        return Some(Sign::Opening(Opening::Binder(Quantifier::ForAll)));
-    }
-    if expect(text, at, Quantifier::Exists.sign()).is_some() {
-        return Some(Sign::Opening(Opening::Binder(Quantifier::Exists)));
-    }
-    None
 }
 
 // The bytes of ⊤ and of ⊥.
