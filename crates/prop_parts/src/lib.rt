@@ -148,11 +148,8 @@ pub fn put_parameter(code: &mut [u8], to: usize, number: u16, kind: ParameterKin
 {
     put(code, to, kind.byte());
     store_u16(code, to + 1, number);
-    match kind {
-        ParameterKind::Uninstantiated => 3,
-        ParameterKind::Instantiated => {
-            store_u16(code, to + 3, 0);
-            5
-        }
+    if kind == ParameterKind::Instantiated {
+        store_u16(code, to + 3, 0);
     }
+    kind.size()
 }
