@@ -10,14 +10,14 @@ ghost use Rattle.std.proofs.lemmas.List.Edits.{sets};
 ghost use Rattle.prop_parts.specs.Found.{code_reach, ConnectiveAt, constant_byte, opening_sign, sign_size, SignAt, NameLacks, NameGiven, bound_numbers, kind_of, ParameterPut};
 
 use output::{Sink, Writer, store_u16};
-use prefix_code::{Connective, ParameterKind, Quantifier};
+use prefix_code::{Connective, FALSE, ParameterKind, Quantifier, TRUE};
 use words::{NameTable, expect, name_end};
 
-// ⊤ or ⊥, by the head byte of its code.
+// ⊤ or ⊥.
 #[derive(Clone, Copy, PartialEq, Eq)]
 pub enum Constant {
-    Top = 0,
-    Bottom = 1,
+    Top,
+    Bottom,
 }
 
 // What a part follows: the sign of a negation, of brackets or of a quantifier.
@@ -62,8 +62,14 @@ static SIGNS: [(&[u8], Sign); 6] = [
     (b"\xE2\x8A\xA5", Sign::Constant(Constant::Bottom)), // ⊥
     (b"\xC2\xAC", Sign::Opening(Opening::Negation)), // ¬
     (b"(", Sign::Opening(Opening::Bracket)),
-    (b"\xE2\x88\x80", Sign::Opening(Opening::Binder(Quantifier::ForAll))), // ∀
-    (b"\xE2\x88\x83", Sign::Opening(Opening::Binder(Quantifier::Exists))), // ∃
+    (
+        b"\xE2\x88\x80", // ∀
+        Sign::Opening(Opening::Binder(Quantifier::ForAll)),
+    ),
+    (
+        b"\xE2\x88\x83", // ∃
+        Sign::Opening(Opening::Binder(Quantifier::Exists)),
+    ),
 ];
 
 // The sign at `at`.
@@ -87,7 +93,10 @@ impl Constant {
     pub fn byte(self) -> u8
         ensures { result ≡ constant_byte self }
     {
-        self as u8
+        match self {
+            Constant::Top => TRUE,
+            Constant::Bottom => FALSE,
+        }
     }
 }
 

@@ -47,7 +47,7 @@ module _ (text : List ℕ) (at : ℕ) (le : at ≤ length text) (p q r s t u : B
 found : (c : After-find) → SignFound c.args.text.now c.args.at (option_map (λ r. r.now) c.find.result)
 found c =
     let is = find_from_yields_List (λ row. starts_with eqb (take (length c.args.text.now - c.args.at) (drop c.args.at c.args.text.now)) row.0.now) _ _ c.find.result c.find.ensures.ran
-        (YieldsList-from_slice _ c.iter.ensures.rest) (λ x b q k. search (rules, tests)) in
+    (YieldsList-from_slice _ c.iter.ensures.rest) (λ x b q k. search (rules, tests)) in
     rw is (first_sign c.args.text.now c.args.at c.requires _ _ _ _ _ _ _ _ _ _ _ _ refl refl refl refl refl refl)
 
 pub returns-in-Some : goal.returns-in-Some
