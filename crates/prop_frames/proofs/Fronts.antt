@@ -1,7 +1,7 @@
 -- What stands in front of a part is closed after it.
 use Prim.Native.Nat.{ℕ, ◌+◌, ◌≤◌}
 use mathlib.Core.Path.{◌≡◌, refl, sym, ap, ◌∙◌}
-use mathlib.Core.Bool.{Bool, true, false}
+use mathlib.Core.Bool.{Bool, true, false, not, beq, true≢false}
 use Rattle.std.specs.Prelude.{None, Some}
 use mathlib.Core.List.{List, [], ◌∷◌}
 use native.Mathlib.Omega.{arith}
@@ -143,3 +143,18 @@ module _ {q : Prop Name} {text code : List ℕ} {to : ℕ} {part : PropRead} (m 
       from = omega arith;
     };
   }
+
+-- Brackets of its own differ from those that are due, or do not:
+pub differs : (own due : Bool) → not (beq own due) ≡ true → same own due ≡ false
+unfolding same
+differs true true e = absurd (true≢false (sym e))
+differs true false e = refl
+differs false true e = refl
+differs false false e = absurd (true≢false (sym e))
+
+pub agrees : (own due : Bool) → not (beq own due) ≡ false → same own due ≡ true
+unfolding same
+agrees true true e = refl
+agrees true false e = absurd (true≢false e)
+agrees false true e = absurd (true≢false e)
+agrees false false e = refl

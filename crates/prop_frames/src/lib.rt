@@ -6,7 +6,7 @@
 ghost use Rattle.std.specs.Prelude.{◌≡◌, List, ℕ, ◌+◌, ◌≤◌, ◌<◌, length, drop, None, Some, MatchOption};
 ghost use Rattle.definitions.specs.Name.{Name};
 ghost use Rattle.definitions.specs.Prop.{Prop, quantifier_byte};
-ghost use Rattle.definitions.specs.TermReader.{standing, same, signed, goes_on};
+ghost use Rattle.definitions.specs.TermReader.{standing, signed, goes_on};
 ghost use Rattle.definitions.specs.TermText.{term_text_limit};
 ghost use Rattle.std.proofs.lemmas.List.Edits.{sets};
 ghost use Rattle.words.specs.declared.name_table.NameTable.{NameTable};
@@ -30,14 +30,6 @@ pub struct BinderRead {
     pub end: usize,
     pub object: u16,
     pub datatype: u16,
-}
-
-// Whether something stands in brackets of its own exactly where these are due.
-#[tactic(auto, using(reading_laws::proofs::PropTexts::same_is))]
-fn agree(own: bool, due: bool) -> bool
-    ensures { result ≡ same own due }
-{
-    own == due
 }
 
 // The readers are given `names`, `bound`, `code` and the place apart, as in atom_reader. The names that quantifiers bind fill
@@ -164,7 +156,7 @@ pub fn close_prop(
             })
         }
         Opening::Negation => {
-            if !agree(part.own, part.strength < STRONGEST) {
+            if part.own != (part.strength < STRONGEST) {
                 return None;
             }
             put(code, to + part.size, FALSE);
@@ -214,10 +206,10 @@ fn may_join(connective: Connective, left: PropRead, right: PropRead) -> bool
     ensures { (p q : Prop Name) → Measured left p → Measured right q →
         result ≡ sides_agree (meant connective) (standing left.own p) (standing right.own q) }
 {
-    if !agree(left.own, connective.wraps_left(left.strength)) {
+    if left.own != connective.wraps_left(left.strength) {
         return false;
     }
-    if !agree(right.own, connective.wraps_right(right.strength)) {
+    if right.own != connective.wraps_right(right.strength) {
         return false;
     }
     match connective {
