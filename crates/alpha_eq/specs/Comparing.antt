@@ -116,7 +116,7 @@ module _ {A : Type 0} (coding : ℕ → Coding A) (named : NamedCode) (i j : ℕ
   abbrev pub AnswersIn : (List ℕ → List ℕ → List Pair → A → A → Outcome Bool) → Binders → Compared → Type 0
   AnswersIn outcome bindings r = Answers coding named.code.now i j (outcome named.names.pairs.now named.names.bytes.now (numbers bindings)) r
 
--- two propositions whose names lie in the text; the left one nests no deeper than those of a sheet do, and so does the walk
+-- two propositions whose names lie in the text; the left one nests no deeper than those of a sheet do, which bounds the stack
 pub record TwoPropositions (code : List ℕ) (i j : ℕ) (pairs text : List ℕ) : Type 0 where
   pub names : ℕ
   pub two : Two proposition_coding code i j names

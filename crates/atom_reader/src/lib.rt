@@ -66,7 +66,7 @@ fn read_parameter(
         names.new code.new result }
 {
     let name = read_name(names, p.at)?;
-    let kind = parameter_kind(&bound[..p.depth], name.number);
+    let kind = parameter_kind(&bound[..p.depth], usize::from(name.number));
     let size = put_parameter(code, p.to, name.number, kind);
     Some(ParametersRead {
         end: name.end,

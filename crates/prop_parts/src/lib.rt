@@ -140,10 +140,10 @@ pub fn put(code: &mut [u8], to: usize, b: u8)
 }
 
 // The kind of a parameter whose name has this number, where quantifiers bind names of these numbers.
-pub fn parameter_kind(bound: &[u16], number: u16) -> ParameterKind
+pub fn parameter_kind(bound: &[u16], number: usize) -> ParameterKind
     ensures { result ≡ kind_of (occurs eqb number (bound_numbers bound.now (length bound.now))) }
 {
-    if bound.contains(&number) {
+    if bound.iter().any(|b| usize::from(*b) == number) {
         return ParameterKind::Uninstantiated;
     }
     ParameterKind::Instantiated
