@@ -27,37 +27,23 @@ impl<'a, T: Copy + Drop> Sink<T> for Writer<'a, T> {
     ghost laws = { writer_laws };
 
     fn put(&mut self, item: T) {
-        self.to = store(self.out, self.to, item);
+        if self.out.len() <= self.to {
+            self.to = self.out.len() + 1;
+            return;
+        }
+        self.out[self.to] = item;
+        self.to += 1;
     }
 
     fn put_all(&mut self, s: &[T]) {
-        self.to = store_all(self.out, self.to, s);
+        let count = fitting(self.out.len(), self.to, s.len());
+        copy(self.out, self.to, &s[..count]);
+        if count < s.len() {
+            self.to = self.out.len() + 1;
+            return;
+        }
+        self.to += count;
     }
-}
-
-// Stores an element, and returns the position behind it, or one past the end.
-fn store<T: Copy + Drop>(out: &mut [T], to: usize, item: T) -> usize
-    requires { length out.old < 2 ^ 63 }
-    ensures { Wrote (item ∷ []) out.old to out.new result }
-{
-    if out.len() <= to {
-        return out.len() + 1;
-    }
-    out[to] = item;
-    to + 1
-}
-
-// Stores all elements that fit, and returns the position behind them, or one past the end.
-fn store_all<T: Copy + Drop>(out: &mut [T], to: usize, s: &[T]) -> usize
-    requires { length out.old < 2 ^ 63 }
-    ensures { Wrote s.now out.old to out.new result }
-{
-    let count = fitting(out.len(), to, s.len());
-    copy(out, to, &s[..count]);
-    if count < s.len() {
-        return out.len() + 1;
-    }
-    to + count
 }
 
 // How many of so many elements lie within the memory from `to` on.
