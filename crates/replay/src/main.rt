@@ -263,13 +263,14 @@ struct Size {
     code: usize,
 }
 
-fn term_answer(reading: Result<TermSize, Located>) -> Result<Size, Refused> {
-    let term = reading?;
-    Ok(Size {
-        records: term.nodes,
-        names: term.names,
-        code: term.code,
-    })
+impl From<TermSize> for Size {
+    fn from(term: TermSize) -> Self {
+        Self {
+            records: term.nodes,
+            names: term.names,
+            code: term.code,
+        }
+    }
 }
 
 // Only a term has names and code.
@@ -300,13 +301,14 @@ fn term_agrees(rest: &mut &[u8], text: &[u8], datatypes: &[u8]) -> bool {
     let mut records = [0; ROOM];
     let mut names = [0; ROOM];
     let mut code = [0; ROOM];
-    let answer = term_answer(skriduhol_terms::read_term(
+    let reading = skriduhol_terms::read_term(
         text,
         datatypes,
         &mut records[..room.records.min(ROOM)],
         &mut names[..room.names.min(ROOM)],
         &mut code[..room.code.min(ROOM)],
-    ));
+    );
+    let answer = reading.map(Size::from).map_err(Refused::from);
     answer == expected && records == numbers && names == pairs && code == labels
 }
 
@@ -379,11 +381,7 @@ fn agrees(rest: &mut &[u8], s: &[u8]) -> bool {
 fn agreeing(rest: &mut &[u8], s: &[u8], questions: usize) -> usize
     ensures { result ≤ questions }
 {
-    let mut agreed = 0;
-    for _ in 0..questions {
-        agreed += usize::from(agrees(rest, s));
-    }
-    agreed
+    (0..questions).filter(|_| agrees(rest, s)).count()
 }
 
 // How many questions were asked, and how many of the answers agree.
