@@ -68,7 +68,8 @@ struct Parts {
     pub right: usize,
 }
 
-// The parts of the proposition at an index among those of one root, the parts having k connectives together.
+// The parts of the proposition at an index among those of one root, the parts having k connectives together. It has no search in common
+// with `locate`: its blocks are as long as a product, of which it needs one factor at the end, and one of them always holds the index.
 fn divide(names: usize, k: usize, i: usize) -> Parts
     requires { Few names k × (i < each (size names) k) }
     ensures { Divided names k i result }

@@ -21,7 +21,8 @@ fn or_refusal(label: Option<Label>, reason: Reason, k: usize) -> Result<Option<L
     Ok(Some(label.ok_or(reason.at(k))?))
 }
 
-// A conclusion with the pairs and the code, over so many names, that its proposition stands in.
+// A conclusion with the pairs and the code, over so many names, that its proposition stands in. `WalkedSteps` has the same three: a struct
+// of them would save two lines in the one function that makes this of that, and each use and clause of both would go through it.
 #[derive(Clone, Copy)]
 pub struct StatedConclusion<'a> {
     pub names: usize,
