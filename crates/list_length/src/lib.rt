@@ -10,16 +10,16 @@ ghost use Rattle.proof_term_lists.specs.Numbers.{list_numbers};
 use definitions::{Refusal, TermList};
 use output::Counter;
 use proof_term_lists::put_term_list;
-use sheet_term::{TERM_NUMBERS, sheet_term};
+use sheet_term::{SheetTerm, TERM_NUMBERS};
 
 // How many numbers a list of a sheet's term has, or the refusal of the term, for every sequence of bytes.
 pub fn list_length(s: &[u8], list: TermList) -> Result<usize, Refusal>
     ensures { result ≡ written_of (map_outcome (list_numbers list) (sheet_term s.now)) }
 {
     let mut terms = [0u16; TERM_NUMBERS];
-    let (sheet, n) = sheet_term(s, &mut terms)?;
-    let memory = sheet.memory();
+    let held = SheetTerm::new(s, &mut terms)?;
+    let memory = held.memory();
     let mut length = Counter { count: 0 };
-    put_term_list(&mut length, list, &memory, &terms, n);
+    put_term_list(&mut length, list, &memory, held.terms(), held.record());
     Ok(length.count)
 }

@@ -38,6 +38,12 @@ pub record SheetWithTerm (s terms : List ℕ) (x : List ℕ × ℕ) : Type 0 whe
   pub sheet : Accepted s
   pub term : HeldTerm s terms x.1
 
+-- the same of a sheet with records and a record of them
+pub record Holding (s : List ℕ) (x : List ℕ × List ℕ × ℕ) : Type 0 where
+  pub same : x.0 ≡ s
+  pub sheet : Accepted s
+  pub term : HeldTerm s x.1 x.2
+
 -- what is answered of an admitted sheet: the record that holds its term, or the term's refusal
 abbrev pub Exports : List ℕ → List ℕ → Result ℕ Refusal → Type 0
 Exports s terms (Ok n) = HeldTerm s terms n
@@ -47,3 +53,7 @@ Exports s terms (Err r) = sheet_term s ≡ refused r
 abbrev pub Gives : List ℕ → List ℕ → Result (List ℕ × ℕ) Refusal → Type 0
 Gives s terms (Ok x) = SheetWithTerm s terms x
 Gives s terms (Err r) = sheet_term s ≡ refused r
+
+abbrev pub Holds : List ℕ → Result (List ℕ × List ℕ × ℕ) Refusal → Type 0
+Holds s (Ok x) = Holding s x
+Holds s (Err r) = sheet_term s ≡ refused r

@@ -1,12 +1,15 @@
 // The term of a sheet in records, for every sequence of bytes, and what its readers may know of it.
 #![tactic(auto)]
 
+mod held_term;
+
 ghost use Rattle.std.specs.Prelude.{◌≡◌};
 ghost use Rattle.definitions.specs.Answers.{label_count};
 ghost use Rattle.sheet_term.specs.Held.{Exports, Gives};
 ghost use Rattle.sheet_term.specs.Counted.{counted_of};
 
 use definitions::Refusal;
+pub use held_term::SheetTerm;
 use proof_term::{RECORD_SIZE, annotation_count};
 use proof_tree::{WalkedSteps, export_as_proof_term};
 use sheet::{AdmittedSheet, Sheet, SizedSheet};
@@ -34,8 +37,8 @@ fn export(sized: &SizedSheet, terms: &mut [u16; TERM_NUMBERS]) -> Result<usize, 
 }
 
 // The sheet of any bytes and the record that holds its term, or the first of refusals 1 to 15. Where the bytes are refused, what the
-// records hold is left open. The records stay the caller's, since `judgement` writes other name numbers and then sizes into them before it
-// checks a term; `text` holds them with the sheet in a struct of its own.
+// records hold is left open. Who only reads the term takes a `SheetTerm`; here the records stay the caller's, since `judgement` writes
+// other name numbers and then sizes into them before it checks a term.
 pub fn sheet_term<'a>(
     s: &'a [u8],
     terms: &mut [u16; TERM_NUMBERS],
@@ -54,6 +57,6 @@ pub fn label_count(s: &[u8]) -> Result<usize, Refusal>
     ensures { result ≡ counted_of (label_count s.now) }
 {
     let mut terms = [0u16; TERM_NUMBERS];
-    let (_, n) = sheet_term(s, &mut terms)?;
-    Ok(annotation_count(&terms, n))
+    let held = SheetTerm::new(s, &mut terms)?;
+    Ok(annotation_count(held.terms(), held.record()))
 }

@@ -38,7 +38,7 @@ use output::{Counter, Writer};
 use proof_term_lists::put_term_list;
 use restating::Given;
 use sheet::{AdmittedSheet, check_header, vocabulary};
-use sheet_term::{TERM_NUMBERS, sheet_term};
+use sheet_term::{SheetTerm, TERM_NUMBERS};
 use text::{sheet_text_length, text};
 use vocabulary::Memory;
 
@@ -62,8 +62,8 @@ fn styled_text(s: &[u8], version: Version, style: Style, out: &mut [u8]) -> Resu
     ensures { Fills (is_in_room (length out.old) (sheet_text s.now version style)) out.old out.new result }
 {
     let mut terms = [0u16; TERM_NUMBERS];
-    let (sheet, n) = sheet_term(s, &mut terms)?;
-    text(&sheet, &terms, n, version, style, out)
+    let held = SheetTerm::new(s, &mut terms)?;
+    text(&held, version, style, out)
 }
 
 // The text of a version of the handout, 1 to 3, in a style.
@@ -108,15 +108,17 @@ fn label_list(s: &[u8], which: TermList, out: &mut [u16]) -> Result<usize, Refus
     ensures { Fills (list_answer which s.now (length out.old)) out.old out.new result }
 {
     let mut terms = [0u16; TERM_NUMBERS];
-    let (sheet, n) = sheet_term(s, &mut terms)?;
-    let memory = sheet.memory();
+    let held = SheetTerm::new(s, &mut terms)?;
+    let memory = held.memory();
+    let records = held.terms();
+    let n = held.record();
     let mut length = Counter { count: 0 };
-    put_term_list(&mut length, which, &memory, &terms, n);
+    put_term_list(&mut length, which, &memory, records, n);
     if out.len() < length.count {
         return Err(Reason::Room.at(0));
     }
     let mut writer = Writer { out, to: 0 };
-    put_term_list(&mut writer, which, &memory, &terms, n);
+    put_term_list(&mut writer, which, &memory, records, n);
     Ok(length.count)
 }
 

@@ -12,7 +12,6 @@ ghost use Rattle.definitions.specs.Answers.{is_in_room, named_term, goal_prop, s
 ghost use Rattle.output.specs.Written.{written_of, Fills};
 ghost use Rattle.vocabulary.specs.Vocabulary.{name_in};
 ghost use Rattle.declarations.specs.Memory.{declared_uses, Declared};
-ghost use Rattle.sheet_term.specs.Held.{HeldTerm};
 ghost use Rattle.text.specs.Declaring.{sheet_vocabulary, heading_lines, term_of, Declares, Arranges, EndsKnown, HeadingLength, TermLength};
 
 use declaration_length::lines_length;
@@ -26,8 +25,7 @@ use proof_term_lists::put_term_uses;
 use prop::{Propositions, fill_all_ends};
 use prop_lists::put_entries;
 use sheet::{AdmittedSheet, Sheet};
-use sheet_term::{TERM_NUMBERS, sheet_term};
-use std::marker::Model;
+use sheet_term::{SheetTerm, TERM_NUMBERS};
 
 // As many declarations as there are names and counts of parameters.
 const DECLARATION_LIMIT: usize = Sheet::NAME_LIMIT * (Sheet::PARAMETER_LIMIT + 1);
@@ -47,102 +45,91 @@ fn lists(version: Version) -> (TermList, TermList)
     }
 }
 
-// A sheet, and its term in records: record n holds it. A clause sees the sheet's bytes, the records and n. The struct is this crate's own:
-// of the others with a sheet and its term, those that list would take it apart at once for proof_term_lists, which knows no sheet, and
-// judgement writes into the records.
-#[derive(Drop)]
-struct SheetTerm<'a, 's> {
-    sheet: &'a AdmittedSheet<'s>,
-    terms: &'a [u16],
-    n: usize,
+// The declarations of a list of the term and then of what the goal adds to it, in lent memory.
+fn declare<'m>(
+    held: &SheetTerm,
+    list: TermList,
+    room: &'m mut [Declaration; DECLARATION_LIMIT],
+) -> &'m mut [Declaration]
+    ensures few { length result.now < 32768 }
+    ensures declares { Declares held.now.0 First list result.now }
+{
+    let memory = held.memory();
+    let mut noted = Declarations::<DECLARATION_LIMIT>::new(memory);
+    put_term_uses(&mut noted, list, &memory, held.terms(), held.record());
+    let sheet = held.sheet();
+    let goal = pair_offset(sheet.proposition_pairs(), sheet.header().goal);
+    put_entries(&mut noted, list, &memory, goal);
+    let all = noted.declared();
+    let declared = &mut room[..all.len()];
+    declared.copy_from_slice(all);
+    declared
 }
 
-impl<'a, 's> Model for SheetTerm<'a, 's> {
-    ghost use Rattle.std.specs.Prelude.{List, ℕ};
-    ghost use Rattle.sheet_term.specs.Held.{HeldTerm};
-
-    ghost Value = { List ℕ × List ℕ × ℕ };
-
-    ghost view = { λ a. (a.sheet.now, a.terms.now, a.n) };
-
-    ghost invariant = { λ a. HeldTerm a.sheet.now a.terms.now a.n };
+// The declarations of the first list of a version, and those of the second, in lent memory each.
+fn declare_both<'m>(
+    held: &SheetTerm,
+    version: Version,
+    first_room: &'m mut [Declaration; DECLARATION_LIMIT],
+    second_room: &'m mut [Declaration; DECLARATION_LIMIT],
+) -> (&'m mut [Declaration], &'m mut [Declaration])
+    ensures declares { Declares held.now.0 First (first_list version) result.0.now }
+    ensures declares_2 { Declares held.now.0 First (second_list version) result.1.now }
+    ensures few { (length result.0.now < 32768) × (length result.1.now < 32768) }
+{
+    let (upper, lower) = lists(version);
+    let first = declare(held, upper, first_room);
+    let second = declare(held, lower, second_room);
+    (first, second)
 }
 
-impl<'a, 's> SheetTerm<'a, 's> {
-    // The declarations of a list of the term and then of what the goal adds to it, in lent memory.
-    fn declare<'m>(
-        &self,
-        list: TermList,
-        room: &'m mut [Declaration; DECLARATION_LIMIT],
-    ) -> &'m mut [Declaration]
-        ensures few { length result.now < 32768 }
-        ensures declares { Declares self.now.0 First list result.now }
-    {
-        let memory = self.sheet.memory();
-        let mut noted = Declarations::<DECLARATION_LIMIT>::new(memory);
-        put_term_uses(&mut noted, list, &memory, self.terms, self.n);
-        let goal = pair_offset(self.sheet.proposition_pairs(), self.sheet.header().goal);
-        put_entries(&mut noted, list, &memory, goal);
-        let all = noted.declared();
-        let declared = &mut room[..all.len()];
-        declared.copy_from_slice(all);
-        declared
-    }
+// The term, from its records.
+fn put_term<S: Sink<u8>>(
+    held: &SheetTerm,
+    sink: &mut S,
+    style: Style,
+    ends: &[u16; Sheet::CODE_LIMIT],
+)
+    requires { EndsKnown held.now.0 ends.now }
+    ensures { S.puts sink.old (display_term style (term_of held.now.0 held.now.1 held.now.2)) sink.new }
+{
+    let propositions = Propositions {
+        memory: held.memory(),
+        ends,
+    };
+    proof_term_display::put_term(sink, held.terms(), held.record(), propositions, style);
+}
 
-    // The declarations of the first list of a version, and those of the second, in lent memory each.
-    fn declare_both<'m>(
-        &self,
-        version: Version,
-        first_room: &'m mut [Declaration; DECLARATION_LIMIT],
-        second_room: &'m mut [Declaration; DECLARATION_LIMIT],
-    ) -> (&'m mut [Declaration], &'m mut [Declaration])
-        ensures declares { Declares self.now.0 First (first_list version) result.0.now }
-        ensures declares_2 { Declares self.now.0 First (second_list version) result.1.now }
-        ensures few { (length result.0.now < 32768) × (length result.1.now < 32768) }
-    {
-        let (upper, lower) = lists(version);
-        let first = self.declare(upper, first_room);
-        let second = self.declare(lower, second_room);
-        (first, second)
-    }
+// How long the term's text is.
+fn measure_term(held: &SheetTerm, style: Style, ends: &[u16; Sheet::CODE_LIMIT]) -> usize
+    requires { EndsKnown held.now.0 ends.now }
+    ensures { TermLength (display_term style (term_of held.now.0 held.now.1 held.now.2)) result }
+{
+    let propositions = Propositions {
+        memory: held.memory(),
+        ends,
+    };
+    term_length(
+        held.terms(),
+        held.record(),
+        propositions,
+        style,
+        TERM_TEXT_LIMIT,
+    )
+}
 
-    // The term, from its records.
-    fn put_term<S: Sink<u8>>(&self, sink: &mut S, style: Style, ends: &[u16; Sheet::CODE_LIMIT])
-        requires { EndsKnown self.now.0 ends.now }
-        ensures { S.puts sink.old (display_term style (term_of self.now.0 self.now.1 self.now.2)) sink.new }
-    {
-        let propositions = Propositions {
-            memory: self.sheet.memory(),
-            ends,
-        };
-        proof_term_display::put_term(sink, self.terms, self.n, propositions, style);
-    }
-
-    // How long the term's text is.
-    fn measure_term(&self, style: Style, ends: &[u16; Sheet::CODE_LIMIT]) -> usize
-        requires { EndsKnown self.now.0 ends.now }
-        ensures { TermLength (display_term style (term_of self.now.0 self.now.1 self.now.2)) result }
-    {
-        let propositions = Propositions {
-            memory: self.sheet.memory(),
-            ends,
-        };
-        term_length(self.terms, self.n, propositions, style, TERM_TEXT_LIMIT)
-    }
-
-    // How long the text of the term in a version is.
-    fn text_length(&self, version: Version, style: Style) -> usize
-        ensures { (a : List ℕ) → sheet_text self.now.0 version style ≡ accepted a → result ≡ length a }
-    {
-        let sheet = self.sheet;
-        let mut ends = [0u16; Sheet::CODE_LIMIT];
-        fill_sheet_ends(sheet, &mut ends);
-        let term = self.measure_term(style, &ends);
-        let mut first_room = [Declaration::default(); DECLARATION_LIMIT];
-        let mut second_room = [Declaration::default(); DECLARATION_LIMIT];
-        let (first, second) = self.declare_both(version, &mut first_room, &mut second_room);
-        heading_length(sheet, version, first, second) + term
-    }
+// How long the text of the term in a version is.
+fn text_length(held: &SheetTerm, version: Version, style: Style) -> usize
+    ensures { (a : List ℕ) → sheet_text held.now.0 version style ≡ accepted a → result ≡ length a }
+{
+    let sheet = held.sheet();
+    let mut ends = [0u16; Sheet::CODE_LIMIT];
+    fill_sheet_ends(sheet, &mut ends);
+    let term = measure_term(held, style, &ends);
+    let mut first_room = [Declaration::default(); DECLARATION_LIMIT];
+    let mut second_room = [Declaration::default(); DECLARATION_LIMIT];
+    let (first, second) = declare_both(held, version, &mut first_room, &mut second_room);
+    heading_length(sheet, version, first, second) + term
 }
 
 // Puts declarations, as they were first met, into the order of a version.
@@ -215,39 +202,31 @@ pub fn sheet_text_length(s: &[u8], version: Version, style: Style) -> Result<usi
     ensures { result ≡ written_of (sheet_text s.now version style) }
 {
     let mut terms = [0u16; TERM_NUMBERS];
-    let (sheet, n) = sheet_term(s, &mut terms)?;
-    let held = SheetTerm {
-        sheet: &sheet,
-        terms: &terms,
-        n,
-    };
-    Ok(held.text_length(version, style))
+    let held = SheetTerm::new(s, &mut terms)?;
+    Ok(text_length(&held, version, style))
 }
 
 // The text of a sheet's term in a version, in lent memory: measured, and then written where it fits. A term that is too long for the
 // memory is refused before anything is declared. A test of room has no value to hand on, so it is an `if`.
 pub fn text(
-    sheet: &AdmittedSheet,
-    terms: &[u16],
-    n: usize,
+    held: &SheetTerm,
     version: Version,
     style: Style,
     out: &mut [u8],
 ) -> Result<usize, Refusal>
-    requires { HeldTerm sheet.now terms.now n }
-    ensures { Fills (is_in_room (length out.old) (sheet_text sheet.now version style))
+    ensures { Fills (is_in_room (length out.old) (sheet_text held.now.0 version style))
         out.old out.new result }
 {
-    let held = SheetTerm { sheet, terms, n };
+    let sheet = held.sheet();
     let mut ends = [0u16; Sheet::CODE_LIMIT];
     fill_sheet_ends(sheet, &mut ends);
-    let term = held.measure_term(style, &ends);
+    let term = measure_term(held, style, &ends);
     if out.len() < term {
         return Err(Reason::Room.at(0));
     }
     let mut first_room = [Declaration::default(); DECLARATION_LIMIT];
     let mut second_room = [Declaration::default(); DECLARATION_LIMIT];
-    let (first, second) = held.declare_both(version, &mut first_room, &mut second_room);
+    let (first, second) = declare_both(held, version, &mut first_room, &mut second_room);
     let end = heading_length(sheet, version, first, second) + term;
     if out.len() < end {
         return Err(Reason::Room.at(0));
@@ -256,6 +235,6 @@ pub fn text(
     arrange(sheet, version, second);
     let mut writer = Writer { out, to: 0 };
     put_heading(&mut writer, sheet, version, first, second);
-    held.put_term(&mut writer, style, &ends);
+    put_term(held, &mut writer, style, &ends);
     Ok(end)
 }

@@ -2,15 +2,20 @@
 use mathlib.Core.Path.{ap, ◌∙◌}
 use borrow.Author.Rules.{rules}
 use Rattle.definitions.specs.Outcome.{map_outcome}
+use Rattle.definitions.specs.Sheet.{names, code_bytes}
 use Rattle.definitions.specs.Answers.{label_count}
 use Rattle.std.specs.Prelude.{Ok}
+use Rattle.prefix_code.specs.PropAt.{prop_at}
 use Rattle.sheet_term.specs.Counted.{counted_of}
 use Rattle.sheet_term.proofs.Answers.{no_count}
 use Rattle.sheet_term.proofs.label_count.Goals as goal
 
-pub returns-in_err-n : goal.returns-in_err-n
-returns-in_err-n c = (search rules) ∙ no_count _ c.in_err-n.ensures
+pub returns-in_err-held : goal.returns-in_err-held
+returns-in_err-held c = (search rules) ∙ no_count _ c.in_err-held.ensures
 
 pub returns : goal.returns
 unfolding label_count map_outcome counted_of
-returns c = rw c.in_ok-n.ensures.term.is_term (ap Ok (c.annotation_count.ensures _))
+returns c =
+    let props = prop_at (names c.args.s.now) (code_bytes c.args.s.now) in
+    let counted = rw (c.terms.ensures, c.record.ensures.is) at (c.annotation_count.ensures props) in
+    rw c.in_ok-held.ensures.term.is_term (ap Ok counted)

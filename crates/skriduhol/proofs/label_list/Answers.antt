@@ -9,38 +9,41 @@ use Rattle.text.specs.Declaring.{sheet_vocabulary}
 use Rattle.text.proofs.Labels as labels
 use Rattle.skriduhol.proofs.Lists.{no_list, too_long, fills}
 use Rattle.skriduhol.proofs.label_list.Goals as goal
-use Rattle.skriduhol.proofs.label_list.Goals.{After-memory-memory}
+use Rattle.skriduhol.proofs.label_list.Goals.{After-memory-memory, After-record-n}
 
 -- the memory that is listed is the sheet's
 its_bytes : (c : After-memory-memory) → c.memory-memory.result.bytes.now ≡ c.args.s.now
-its_bytes c = c.memory-memory.ensures.bytes ∙ c.in_ok-sheet.ensures.same
+its_bytes c = c.memory-memory.ensures.bytes ∙ c.in_ok-held.ensures.same
 
 its_vocabulary : (c : After-memory-memory) → c.memory-memory.result.vocabulary ≡ sheet_vocabulary c.args.s.now
-its_vocabulary c = rw c.in_ok-sheet.ensures.same at c.memory-memory.ensures.vocabulary
+its_vocabulary c = rw c.in_ok-held.ensures.same at c.memory-memory.ensures.vocabulary
 
-listable : (c : After-memory-memory) → Listable c.memory-memory.result.bytes.now c.memory-memory.result.vocabulary c.sheet_term.new.terms c.in_ok-sheet.n
-listable c = let given = c.in_ok-sheet.ensures in rw (its_bytes c) (labels.listable given.sheet (its_vocabulary c) given.term)
+listable : (c : After-record-n) → Listable c.memory-memory.result.bytes.now c.memory-memory.result.vocabulary c.terms-records.result.now c.record-n.result
+listable c =
+    let given = c.in_ok-held.ensures in
+    let here = (goal.at.After-record-n c).After-memory-memory in
+    rw (its_bytes here, c.terms-records.ensures, c.record-n.ensures.is) (labels.listable given.sheet (its_vocabulary here) given.term)
 
-pub returns-in_err-sheet : goal.returns-in_err-sheet
-returns-in_err-sheet c = no_list _ _ c.in_err-sheet.ensures (search rules) _
+pub returns-in_err-held : goal.returns-in_err-held
+returns-in_err-held c = no_list _ _ c.in_err-held.ensures (search rules) _
 
 pub put_term_list-requires : goal.put_term_list-requires
-put_term_list-requires c = listable (goal.at.put_term_list-requires c).After-memory-memory
+put_term_list-requires c = listable (goal.at.put_term_list-requires c).After-record-n
 
 pub returns-then-out-length : goal.returns-then-out-length
 returns-then-out-length c =
-    let given = c.in_ok-sheet.ensures in
+    let given = c.in_ok-held.ensures in
     let here = (goal.at.returns-then-out-length c).After-memory-memory in
     rw c.at.ensures
     (too_long given.sheet (its_vocabulary here) given.term _
-    (counted_past refl (rw (its_bytes here) at c.put_term_list.ensures) (omega arith)))
+    (counted_past refl (rw (its_bytes here, c.terms-records.ensures, c.record-n.ensures.is) at c.put_term_list.ensures) (omega arith)))
 
 pub put_term_list-requires-2 : goal.put_term_list-requires-2
-put_term_list-requires-2 c = listable (goal.at.put_term_list-requires-2 c).After-memory-memory
+put_term_list-requires-2 c = listable (goal.at.put_term_list-requires-2 c).After-record-n
 
 pub returns : goal.returns
 returns c =
-    let given = c.in_ok-sheet.ensures in
+    let given = c.in_ok-held.ensures in
     let here = (goal.at.returns c).After-memory-memory in
     fills given.sheet (its_vocabulary here) given.term _
-    (counted_whole refl (rw (its_bytes here) at c.put_term_list.ensures) {room = length c.args.out.now} (search rules) (omega arith)) (omega arith) {next = c.put_term_list-2.new.sink.to} (search rules)
+    (counted_whole refl (rw (its_bytes here, c.terms-records.ensures, c.record-n.ensures.is) at c.put_term_list.ensures) {room = length c.args.out.now} (search rules) (omega arith)) (omega arith) {next = c.put_term_list-2.new.sink.to} (search rules)

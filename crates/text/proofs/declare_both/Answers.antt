@@ -1,6 +1,6 @@
 -- The lists are those of the version.
 use Rattle.text.proofs.Heading.{noted_of}
-use Rattle.text.proofs.SheetTerm.declare_both.Goals as goal
+use Rattle.text.proofs.declare_both.Goals as goal
 
 pub returns-clause-declares : goal.returns-clause-declares
 returns-clause-declares c = noted_of c.lists-upper.ensures.0 c.declare-first.ensures.declares
