@@ -114,8 +114,8 @@ fn alpha_eq_parameters(
 }
 
 // Below, the numbers behind two heads of one byte are read by their offsets. A match on what prefix_code::shape_at hands out of both has
-// eighteen names for eight reads, and is longer than a function may be; cut into these three functions it hands on six numbers each
-// in place of i and j, of which the contracts speak. It also reads what stands behind two bytes that differ already.
+// eighteen names for eight reads, and is longer than a function may be; cut into these three functions it hands on six numbers to two
+// of them and two to the third, in place of i and j, of which the contracts speak.
 
 // The atoms at i and j: names, then parameter counts, then parameters.
 fn alpha_eq_atom(named: &NamedCode, i: usize, j: usize, bindings: &Binders) -> Compared

@@ -13,7 +13,7 @@ use identifier::same_bytes;
 use number::Marked;
 use search::highest;
 
-// A name, by its number, and an id.
+// A name, by its number, and an id, as in a step: the context is a part of its own, as in the Rust, and knows no steps.
 #[derive(Debug, Clone, Copy, Default, PartialEq, Eq)]
 pub struct Identifier {
     pub name: u16,

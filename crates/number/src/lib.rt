@@ -6,7 +6,7 @@ ghost use Rattle.definitions.specs.Sheet.{pair_size, number_at, pair_offset, pai
 ghost use Rattle.number.specs.Pairs.{NameWithin};
 
 // The number at an offset. As a u16 it would need no bound in the clause, but nearly every reader compares it with a length or a count, adds
-// it to a place or indexes by it, and would convert it there; only renumbering, prop_lists and proof_tree store one as a u16.
+// it to a place or indexes by it, and would convert it there; only steps, renumbering, prop_lists and proof_tree store one as a u16.
 #[tactic(auto, unfolding(definitions::specs::Sheet::number_at))]
 pub fn number_at(s: &[u8], i: usize) -> usize
     requires { i + 1 < length s.now }

@@ -40,7 +40,7 @@ pub const EXISTS: u8 = Quantifier::Exists as u8;
 
 // Code, a place in it and the count of its names stand loose: the place moves from call to call, and of a struct of the other two nearly
 // each use, here and in the crates above, would read `code.bytes`, for the count is only asked for where a number of a name has to be below
-// it, and what reads a code that is known to stand, as `shape_at`, has none. What a function promises of an end is one relation of its own
+// it, and `shape_at`, which looks for no end, has none. What a function promises of an end is one relation of its own
 // coding, as `EndIfAny (head_coding names) code.now at result`.
 
 // A parameter that a quantifier binds, and one with an id, each by the byte in front of its name.

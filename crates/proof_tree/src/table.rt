@@ -58,7 +58,7 @@ pub struct Row {
     pub term: RuleTerm,
 }
 
-// A row on one line of the table: a constant calls no function.
+// A row on one line of the table: the value of a static calls no function.
 macro_rules! row {
     ($modes:expr, $most:expr, $ending:expr, $term:expr) => {
         Row {

@@ -39,8 +39,8 @@ pub fn fill_ends(code: &[u8], at: usize, names: usize, ends: &mut [u16]) -> usiz
     i
 }
 
-// The same for the propositions of a sheet. Pairs and code stand loose and are no `Marked`: that the numbers of the code are bytes a proof
-// knows of a parameter, and of a field where its struct says so, and all who make a `Marked` would have to show it.
+// The same for the propositions of a sheet. Pairs and code stand loose and are no `Marked`: of its fields a proof does not know that they
+// hold bytes, as it does of a parameter, and a clause that says so would ask more of callers.
 pub fn fill_all_ends(pairs: &[u8], code: &[u8], count: usize, names: usize, ends: &mut [u16])
     requires { AllFillable names pairs.now code.now count ends.old }
     ensures { (i : ℕ) → i < count →

@@ -56,7 +56,7 @@ pub fn connective_at(text: &[u8], at: usize) -> Option<Connective>
         .find(|c| expect(text, at, c.text()).is_some())
 }
 
-// The signs, each behind its bytes.
+// The signs, each behind its bytes. Those of ∀ and ∃ are those of `Quantifier::sign`, which the value of a static cannot call.
 static SIGNS: [(&[u8], Sign); 6] = [
     (b"\xE2\x8A\xA4", Sign::Constant(Constant::Top)), // ⊤
     (b"\xE2\x8A\xA5", Sign::Constant(Constant::Bottom)), // ⊥

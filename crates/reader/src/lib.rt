@@ -1,5 +1,5 @@
 // A reader holds a sheet and a position in it, and is passed by value: reading leaves it where it was, and `moved` is the next one.
-// Document 01 asks for it, a thin layer over the numbers of a sheet: that `header_number` is its one use is no reason to write it out there.
+// Document 01 asks for it: a thin layer over the numbers of a sheet.
 #![tactic(auto)]
 
 ghost use Rattle.std.specs.Prelude.{◌≡◌, ◌*◌};

@@ -19,4 +19,4 @@ put_parameter-size-requires c =
     omega (arith, pre.near, pre.within, c.args.names.now.table.short)
 
 pub returns : goal.returns
-returns c ns b = parameter_given b c.in_ok-name.ensures (omega (arith, c.requires.deep)) c.parameter_kind-kind.ensures c.put_parameter-size.ensures
+returns c ns b = parameter_given b c.in_ok-name.ensures (omega (arith, c.requires.deep)) (rw c.from.ensures at c.parameter_kind-kind.ensures) c.put_parameter-size.ensures
