@@ -12,7 +12,8 @@ use output::Counter;
 use proof_term_lists::put_term_list;
 use sheet_term::{SheetTerm, TERM_NUMBERS};
 
-// How many numbers a list of a sheet's term has, or the refusal of the term, for every sequence of bytes.
+// How many numbers a list of a sheet's term has, or the refusal of the term, for every sequence of bytes. skriduhol::label_list counts them
+// by the same two lines before it writes: a function of these would have four parameters.
 pub fn list_length(s: &[u8], list: TermList) -> Result<usize, Refusal>
     ensures { result ≡ written_of (map_outcome (list_numbers list) (sheet_term s.now)) }
 {

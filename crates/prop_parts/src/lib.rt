@@ -72,7 +72,7 @@ static SIGNS: [(&[u8], Sign); 6] = [
     ),
 ];
 
-// The sign at `at`.
+// The sign at `at`. The row is matched for the reason that words::start_of gives.
 pub fn sign_at(text: &[u8], at: usize) -> Option<Sign>
     requires { at ≤ length text.now }
     ensures { MatchOption result (sign (drop at text.now) ≡ None) (SignAt text.now at) }

@@ -108,7 +108,8 @@ static STARTS: [(&[u8], Start); 9] = [
     (b"sorry", Start::Sorry),
 ];
 
-// The start of a term whose first word these bytes are.
+// The start of a term whose first word these bytes are. Tried: of a `map_or` over the row a proof knows the closure's own postcondition
+// alone, which it cannot open.
 pub fn start_of(word: &[u8]) -> Start
     ensures { result ≡ as_start (start_of word.now) }
 {
