@@ -24,7 +24,10 @@ is_admitted c =
 -- the memory has these bytes, by their vocabulary
 its_memory : (c : After-memory) → (c.memory.result.bytes.now ≡ c.args.s.now) × (c.memory.result.vocabulary ≡ vocabulary_of (header_of c.args.s.now))
 its_memory c =
-    rw (is_admitted (goal.at.After-memory c).In_ok-sheet).0 at (c.memory.ensures.bytes, c.memory.ensures.vocabulary)
+    let is = (is_admitted (goal.at.After-memory c).In_ok-sheet).0 in
+    let bytes : c.memory.result.bytes.now ≡ c.args.s.now = rw is at c.memory.ensures.bytes in
+    let vocabulary : c.memory.result.vocabulary ≡ vocabulary_of (header_of c.args.s.now) = rw is at c.memory.ensures.vocabulary in
+    (bytes, vocabulary)
 
 pub map_err-requires : goal.map_err-requires
 map_err-requires c = λ r e. let after = admission_after_header _ (rw e at c.new-checked.ensures) in search rules
