@@ -9,7 +9,7 @@ use Rattle.definitions.specs.Prop.{Prop, False, Binary, Atom, Quantified, PropPa
 use Rattle.definitions.specs.Code.{u16, encode}
 use Rattle.definitions.specs.TermText.{code_bytes}
 use Rattle.definitions.proofs.Shape.{nests, nesting_same, parameters_length_same, length_same, two_bytes_a_level}
-use Rattle.words.specs.Table.{number_in}
+use Rattle.words.specs.Names.{number_in}
 use Rattle.atom_reader.specs.Reading.{parameter_code, parameter_bytes, code_over}
 
 pub code_length_lem : (seen : List Name) (p : Prop Name) → length (code_over seen p) ≡ code_bytes p

@@ -120,7 +120,7 @@ module _ {names : ℕ} {code : List ℕ} {i : ℕ} (w : Looking names code i) (l
   pub looking_starts : Whole names code → Starts (head_coding names) code i
   looking_starts v =
       let (ps, f, same) = ahead v.value v.codable v.coded in
-      record { value = head_of f.proposition; rest = row (parts f.proposition ++ f.others); stands = f.stands }
+      record { value = head_of f.proposition; rest = encode_row (parts f.proposition ++ f.others); stands = f.stands }
 
   pub looking_head : Whole names code → SomeHead code i
   looking_head v = let head = looking_starts v in record { names = names; value = head.value; rest = head.rest; stands = head.stands }

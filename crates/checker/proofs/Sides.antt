@@ -21,8 +21,8 @@ use Rattle.prop_numbers.specs.Answering.{Expected}
 use Rattle.checker.specs.Scope.{Scoped}
 use Rattle.checker.specs.Judging.{InfersAs, Means, named}
 use Rattle.prop_numbers.proofs.Opening.{Sides, binary_connective, opened, sides_else}
-use Rattle.prop_numbers.proofs.Fronts.{byte_of, dec_connective}
-use Rattle.prop_numbers.proofs.Halves.{left_present, rep_stands, scanned_of}
+use Rattle.prop_numbers.proofs.Fronts.{dec_connective}
+use Rattle.prop_numbers.proofs.Halves.{scanned_of}
 use Rattle.checker.proofs.Answers.{Deriving, not_both, stopping, derives}
 
 -- a stop passes through

@@ -173,10 +173,7 @@ impl<'a> Terms<'a> {
                 self.check(state, first, node + 1, side)
             }
             Kind::Case => self.check_case(state, m, node, p),
-            Kind::Abort => {
-                let bottom = self.code.len() - 1;
-                self.check(state, first, node + 1, bottom)
-            }
+            Kind::Abort => self.check(state, first, node + 1, self.code.len() - 1),
             Kind::Sorry => Ok(()),
             Kind::LetIn => Err(node),
             Kind::Ident

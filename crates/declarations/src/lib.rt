@@ -157,7 +157,7 @@ fn put_count<S: Sink<u8>>(sink: &mut S, count: usize)
     sink.put(b')');
 }
 
-// The line of an entry of a list, which is a value that is asked for, as prop_lists::has_entry says.
+// The line of an entry of a list, which is a value that is asked for, as prop_lists::own_entry says.
 fn put_declaration<S: Sink<u8>>(sink: &mut S, this: Declaration, list: TermList, memory: &Memory)
     requires { HasName memory.now this.name }
     ensures line { S.puts sink.old (declaration list (use_in (name_of memory.now) this)) sink.new }

@@ -1,10 +1,10 @@
 // The sink that writes into lent memory.
 #![tactic(auto)]
 
-ghost use Rattle.std.specs.Prelude.{[], ◌∷◌, ◌≡◌, ◌-◌, ◌^◌, ◌<◌, ◌≤◌, true, min, length, take};
+ghost use Rattle.std.specs.Prelude.{[], ◌∷◌, ◌≡◌, ◌-◌, ◌^◌, ◌<◌, ◌≤◌, min, length, take};
 ghost use Rattle.std.proofs.lemmas.List.Edits.{sets};
 ghost use Rattle.definitions.specs.Code.{u16};
-ghost use Rattle.output.specs.Wrote.{puts, Wrote};
+ghost use Rattle.output.specs.Wrote.{Wrote};
 
 use crate::sink::{Sink, put_u16};
 
@@ -66,7 +66,6 @@ fn copy<T: Copy + Drop>(out: &mut [T], to: usize, part: &[T])
 }
 
 // A number of a sheet in lent memory, from a place on, as far as there is room.
-#[tactic(auto, unfolding(crate::specs::Wrote::puts))]
 pub fn store_u16(memory: &mut [u8], to: usize, n: u16)
     ensures { memory.new ≡ sets memory.old to (u16 n) }
 {

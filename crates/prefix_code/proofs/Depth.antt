@@ -3,9 +3,10 @@ use Prim.Native.Nat.{ℕ, zero, suc, ◌-◌, ◌≤◌, ◌<◌}
 use mathlib.Core.Path.{◌≡◌}
 use mathlib.Core.List.{List}
 use native.Mathlib.Omega.{arith}
-use lib.ListN.{length, length-append, get_or}
-use Rattle.definitions.specs.Prop.{Prop, True, False, Binary, Atom, Quantified, nesting}
-use Rattle.definitions.specs.Code.{u16, encode, Codable}
+use lib.ListN.{length, get_or}
+use Rattle.definitions.specs.Prop.{nesting}
+use Rattle.definitions.specs.Code.{Codable}
+use Rattle.definitions.proofs.Shape.{nests}
 use Rattle.prefix_code.specs.Scan.{Stands, Absent, Ends, Shallow, shallow_coding}
 use Rattle.prefix_code.specs.Head.{CodableHead, head_coding, parts_after}
 use Rattle.prefix_code.proofs.Runs.{run_of, Walked}
@@ -22,29 +23,11 @@ shallow_layer names depth = record {
   quantified = λ q x t p. (λ g. ((g.0.0, g.0.1), (g.0.2, omega arith)), λ g. ((g.0.0, g.0.1, g.1.0), omega arith));
 }
 
-nesting_positive : (p : Prop ℕ) → 0 < nesting p
-unfolding nesting
-nesting_positive True = omega arith
-nesting_positive False = omega arith
-nesting_positive (Binary c p q) = omega arith
-nesting_positive (Atom a ps) = omega arith
-nesting_positive (Quantified q x t p) = omega arith
-
--- each level but the innermost takes at least two bytes
-pub two_bytes_a_level : (p : Prop ℕ) → 2 * nesting p ≤ length (encode p) + 1
-unfolding nesting encode u16
-two_bytes_a_level True = omega arith
-two_bytes_a_level False = omega arith
-two_bytes_a_level (Binary c p q) =
-    omega (arith, length-append (encode p) (encode q), two_bytes_a_level p, two_bytes_a_level q, nesting_positive p, nesting_positive q)
-two_bytes_a_level (Atom a ps) = omega arith
-two_bytes_a_level (Quantified q x t p) = omega (arith, length-append (u16 x) (u16 t ++ encode p), length-append (u16 t) (encode p), two_bytes_a_level p)
-
 module _ (names : ℕ) (l : List ℕ) (at : ℕ) where
   -- none nests 0 deep
   pub no_flat : (depth : ℕ) → depth ≡ 0 → Absent (shallow_coding names depth) l at
   unfolding Stands Shallow
-  no_flat depth z p rest s = omega (arith, nesting_positive p, s.0.1)
+  no_flat depth z p rest s = omega (arith, nests p, s.0.1)
 
   -- behind the head its parts follow, and without a head there is no proposition
   pub shallow_walk : (r depth : ℕ) → 0 < depth → Ends (head_coding names) l at r

@@ -7,6 +7,8 @@ use Rattle.definitions.specs.Prop.{Prop, True, False, Binary, Atom, Quantified}
 use Rattle.definitions.specs.Code.{u16, encode, Codable}
 use Rattle.prefix_code.specs.Head.{Head, TrueHead, FalseHead, BinaryHead, AtomHead, QuantifiedHead, encode_head, CodableHead}
 use Rattle.prefix_code.specs.Row.{encode_row, CodableRow}
+use Rattle.prefix_code.specs.Scan.{Stands, At}
+use Rattle.prefix_code.proofs.Heads.{HeadAt}
 
 abbrev pub head_of : Prop ℕ → Head
 head_of True = TrueHead
@@ -46,6 +48,13 @@ module _ (names : ℕ) where
   head_codable (Binary c p q) g = (tt, (g.0, (g.1, tt)))
   head_codable (Atom a ps) g = (g, tt)
   head_codable (Quantified q x t p) g = ((g.0, g.1), (g.2, tt))
+
+  -- where a proposition stands its head does
+  pub head_there : (code : List ℕ) (at : ℕ) (p : Prop ℕ) (rest : List ℕ) → At names code at p rest
+      → HeadAt names code at (head_of p) (encode_row (parts p) ++ rest)
+  unfolding Stands
+  head_there code at p rest (g, e) =
+      ((head_codable p g).0, cc (e, head_code p, append_assoc (encode_head (head_of p)) (encode_row (parts p)) rest))
 
   pub codable_append : (ps qs : List (Prop ℕ)) → CodableRow names ps → CodableRow names qs → CodableRow names (ps ++ qs)
   unfolding CodableRow

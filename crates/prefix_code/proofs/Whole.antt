@@ -16,7 +16,6 @@ use Rattle.definitions.specs.Admission.{is_none}
 use Rattle.definitions.proofs.Shape.{two_bytes_a_level}
 use Rattle.definitions.proofs.PrefixCode.{Bytes, decode_encode, encode_decode, encode_injective}
 use Rattle.prefix_code.specs.Scan.{Stands, EndIfAny, At, proposition_coding, Shallow, shallow_coding}
-use Rattle.prefix_code.proofs.Depth.{two_bytes_a_level}
 use Rattle.prefix_code.proofs.Reading.{is_some}
 
 module _ (names : ℕ) (l : List ℕ) (bytes : Bytes l) where
@@ -49,8 +48,7 @@ module _ (names : ℕ) (l : List ℕ) (bytes : Bytes l) where
       by (Some r) s None e = ne_eqb r (length l) λ h.
           let t = s.starts in
           let d = whole_decodes t.value t.rest t.stands (omega (arith, s.found t.value t.rest t.stands)) in
-          let z : ◌≡◌ {A = ℕ} 0 1 = cc in
-          omega arith
+          grind arith
       by (Some r) s (Some p) e = eq-eqb r (length l) (omega (arith, s.found p [] (decoded p e), decoded_length p e))
 
   pub shallow_whole : (depth : ℕ) (o : Option ℕ) → is_none (decode names l) ≡ false → EndIfAny (shallow_coding names depth) l 0 o

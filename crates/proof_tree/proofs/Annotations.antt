@@ -62,11 +62,9 @@ shape_found {pairs} {at = at} (PropIsTrue p) is shape =
     let here : at ≡ pair_offset pairs p = cc in opened (record { proposition = p; concludes = refl; shape = rw here at shape })
 shape_found (TypeJudgement x) is shape = absurd (grind arith)
 
-pub opened : {pairs code : List ℕ} {at : ℕ} {s : Shape} (c : Conclusion) → offset_of pairs c ≡ Some at
-    → ((names : ℕ) → Present names code at → ShapeOf names code at s) → Opened pairs code c s
-opened {pairs} {at = at} (PropIsTrue p) is shape =
-    let here : at ≡ pair_offset pairs p = cc in record { proposition = p; concludes = refl; shape = rw here at shape }
-opened (TypeJudgement x) is shape = absurd (grind arith)
+opened_as : {pairs code : List ℕ} {c : Conclusion} {o : Option Shape} {s : Shape} → ShapeFound pairs code c o → o ≡ Some s → Opened pairs code c s
+opened_as (judged none) is = absurd (grind arith)
+opened_as {s = s} (opened {s = t} o) is = let same : t ≡ s = cc in rw same at o
 
 -- a type judgement gives no label
 left_judged : {names : ℕ} {pairs code : List ℕ} {c : Conclusion} {m : ProofTreeConclusion ℕ} → Means names pairs code c m → offset_of pairs c ≡ None
@@ -135,7 +133,7 @@ module _ {names : ℕ} {pairs code : List ℕ} {c : Conclusion} {m : ProofTreeCo
     datatype {d = d} same =
         let here = opened_as found same in
         labelled {l = Some (Datatype d)} (record {
-          is = rw ((stated o.concludes).is, universal_label_lem k (rw same at is_shape) refl);
+          is = rw ((stated here.concludes).is, universal_label_lem k (is_shape here) refl);
           left = λ number z. absurd (grind arith);
         })
 

@@ -12,7 +12,7 @@ use Rattle.definitions.specs.Prop.{Prop, AtomUse, True, False, Binary, Atom, Qua
 use Rattle.definitions.specs.Code.{followed_by, ◌>>=◌, byte, proposition, encode}
 use Rattle.definitions.proofs.PrefixCode.{code_nonempty, read_encode}
 use Rattle.prefix_code.specs.Scan.{Stands, At, Scanned}
-use Rattle.prefix_code.specs.PropAt.{prop_at}
+use Rattle.prefix_code.specs.PropAt.{prop_at, Present}
 use Rattle.prefix_code.specs.Head.{Head, TrueHead, FalseHead, BinaryHead, AtomHead, QuantifiedHead, encode_head}
 use Rattle.prefix_code.specs.Row.{encode_row, CodableRow, row_coding}
 use Rattle.prefix_code.proofs.Positions.{after, extent}
@@ -20,6 +20,7 @@ use Rattle.prefix_code.proofs.Heads.{HeadAt}
 use Rattle.prefix_code.proofs.Forms.{inside_at}
 use Rattle.prefix_code.proofs.Propositions.{head_long}
 use Rattle.prefix_code.proofs.Reading.{prop_at_lem, present}
+use Rattle.prefix_code.proofs.Rows.{head_of, parts, row_code, head_codable, codable_append}
 use Rattle.vocabulary.specs.declared.Vocabulary.{Vocabulary}
 use Rattle.vocabulary.specs.Vocabulary.{code_in, prop_in, SomeProposition}
 use Rattle.prop_lists.specs.Row.{Row, and_after, read_row, propositions_from}
@@ -114,15 +115,6 @@ nothing_left names code at end list h = let none : end - at ≡ 0 = omega arith 
 abbrev pub HeadEnds : ℕ → List ℕ → ℕ → ℕ → Type 0
 HeadEnds names code at next = (h : Head) (rest : List ℕ) → HeadAt names code at h rest → next ≡ at + length (encode_head h)
 
--- a head has a byte in front
-head_nonempty : (h : Head) → 0 < length (encode_head h)
-unfolding encode_head
-head_nonempty TrueHead = omega arith
-head_nonempty FalseHead = omega arith
-head_nonempty (BinaryHead c) = omega arith
-head_nonempty (AtomHead a ps) = omega arith
-head_nonempty (QuantifiedHead q x t) = omega arith
-
 -- Behind the first head of a row, which ends at `next`, a row stands again; what that head adds to a list.
 pub record First (names : ℕ) (code : List ℕ) (at end next : ℕ) : Type 0 where
   pub further : at < next
@@ -183,7 +175,7 @@ module _ (names : ℕ) (code : List ℕ) (at end : ℕ) (row : Row names code at
             inside = row.inside;
           } in
           record {
-            further = omega (arith, head_nonempty (head_of p));
+            further = omega (arith, head_long (head_of p));
             row = behind;
             adds = λ list.
                 rw is (cc (entries_row names code at end row list, e, row_list p ps list, entries_row names code next end behind list));

@@ -16,7 +16,8 @@ use Rattle.prefix_code.specs.declared.Shape.{Shape}
 use Rattle.prefix_code.proofs.Heads.{atom_bytes, quantified_bytes}
 use Rattle.prop_lists.specs.declared.Entry.{Entry}
 use Rattle.prop_lists.specs.Entries.{use_of, own_entry}
-use Rattle.prop_lists.proofs.Rows.{head_of, head_entries, head_there}
+use Rattle.prefix_code.proofs.Rows.{head_of, head_there}
+use Rattle.prop_lists.proofs.Rows.{head_entries}
 
 -- an entry, if there is one, as uses
 abbrev pub uses : Option Entry → List (AtomUse ℕ)

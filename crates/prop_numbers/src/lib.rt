@@ -188,7 +188,7 @@ pub fn side_of(code: &[u8], p: usize, connective: Connective, node: usize) -> Re
     ensures { SideOf code.now p connective node result }
 {
     if code[p] == connective.byte() {
-        return Ok(scan(code, p + 1, NAMES));
+        return Ok(known_end(code, p + 1, NAMES));
     }
     Err(node)
 }

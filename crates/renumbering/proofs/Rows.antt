@@ -10,9 +10,11 @@ use Rattle.definitions.specs.Code.{u16, encode, Codable}
 use Rattle.definitions.proofs.PrefixCode.{code_nonempty}
 use Rattle.output.specs.SinkLaws.{SinkLaws}
 use Rattle.prefix_code.specs.Scan.{Stands, Ends}
-use Rattle.prefix_code.specs.Head.{Head, TrueHead, FalseHead, BinaryHead, AtomHead, QuantifiedHead, encode_head, CodableHead, head_coding}
+use Rattle.prefix_code.specs.Head.{encode_head, head_coding}
+use Rattle.prefix_code.specs.Row.{encode_row, CodableRow}
 use Rattle.prefix_code.proofs.Positions.{after}
 use Rattle.prefix_code.proofs.Heads.{HeadAt}
+use Rattle.prefix_code.proofs.Rows.{head_of, parts, row_code, head_codable, codable_append}
 use Rattle.renumbering.specs.Renumbered.{mapped, rename_head, rename_parameters, Standing, Renumbers, Whole, PutWhole}
 use Rattle.renumbering.proofs.Writes.{Left, all_left, piece_less, none_left}
 

@@ -16,7 +16,7 @@ ghost use Rattle.renumbering.specs.StepOver.{ConclusionMapped, IdentifiersMapped
 use number::number_at;
 use output::Sink;
 use output::sink::{put_u16, put_u16s};
-use prefix_code::{Head, ParameterKind, head_end, parameter_end};
+use prefix_code::{Head, ParameterKind, known_head_end};
 use steps::{Conclusion, Identifier, Judgement, Rule, Step, step_at};
 
 // The code of a proposition with so many names, and the map that has a number for each of these. The place stands loose: it moves from call

@@ -189,9 +189,9 @@ check_case-after-last-requires t c =
     cases.left_few c.requires.ready.0 c.field-first.ensures.0 c.requires.kind c.infer-inferred.ensures (expected_here c.propositions.ensures c.expect.ensures) c.in_ok-h.was
     c.field-second.ensures.0 c.after-next.ensures
 
-pub check_case-scan-side-requires : goal.check_case-scan-side-requires
-check_case-scan-side-requires t c =
-    cases.inside_code c.requires.ready.0 c.field-first.ensures.0 c.requires.kind c.infer-inferred.ensures (expected_here c.propositions.ensures c.expect.ensures) c.in_ok-h.was
+pub check_case-known_end-side-requires : goal.check_case-known_end-side-requires
+check_case-known_end-side-requires t c =
+    (cases.left_stood c.requires.ready.0 c.field-first.ensures.0 c.requires.kind c.infer-inferred.ensures (expected_here c.propositions.ensures c.expect.ensures) c.in_ok-h.was).there
 
 pub check_case-bind-hidden-requires-2 : goal.check_case-bind-hidden-requires-2
 check_case-bind-hidden-requires-2 t c =
@@ -199,7 +199,7 @@ check_case-bind-hidden-requires-2 t c =
     let l = c.in_ok-h.was in (
       cases.right_name c.requires.ready.0 c.field-first.ensures.0 e,
       (cases.sides c.requires.ready.0 c.field-first.ensures.0 e c.infer-inferred.ensures
-          (expected_here c.propositions.ensures c.expect.ensures) l c.scan-side.ensures).right.low,
+          (expected_here c.propositions.ensures c.expect.ensures) l c.known_end-side.ensures).right.low,
     )
 
 pub check_case-check-r-requires-2 : goal.check_case-check-r-requires-2
@@ -224,7 +224,7 @@ pub check_case-returns : goal.check_case-returns
 check_case-returns t c =
     arms.case_done c.requires.ready.0 c.requires.ready.1 c.field-first.ensures.0 c.requires.kind c.infer-inferred.ensures (expected_here c.propositions.ensures c.expect.ensures) c.in_ok-h.was
     c.field-second.ensures.0 c.after-next.ensures c.bind-hidden.ensures c.check-r.ensures c.unbind.ensures c.in_ok-r.was
-    c.field-third.ensures.0 c.after-last.ensures c.scan-side.ensures c.bind-hidden-2.ensures c.check-r-2.ensures c.unbind-2.ensures
+    c.field-third.ensures.0 c.after-last.ensures c.known_end-side.ensures c.bind-hidden-2.ensures c.check-r-2.ensures c.unbind-2.ensures
 
 -- What is inferred.
 pub infer-entry-requires : goal.infer-entry-requires
@@ -457,16 +457,16 @@ infer_case-after-last-requires t c =
     cases.left_few c.requires.ready c.field-first.ensures.0 c.requires.kind c.infer-inferred.ensures (expected_here c.propositions.ensures c.expect.ensures) c.in_ok-h.was
     c.field-second.ensures.0 c.after-next.ensures
 
-pub infer_case-scan-side-requires : goal.infer_case-scan-side-requires
-infer_case-scan-side-requires t c =
-    cases.inside_code c.requires.ready c.field-first.ensures.0 c.requires.kind c.infer-inferred.ensures (expected_here c.propositions.ensures c.expect.ensures) c.in_ok-h.was
+pub infer_case-known_end-side-requires : goal.infer_case-known_end-side-requires
+infer_case-known_end-side-requires t c =
+    (cases.left_stood c.requires.ready c.field-first.ensures.0 c.requires.kind c.infer-inferred.ensures (expected_here c.propositions.ensures c.expect.ensures) c.in_ok-h.was).there
 
 pub infer_case-bind-hidden-requires-2 : goal.infer_case-bind-hidden-requires-2
 infer_case-bind-hidden-requires-2 t c =
     let l = c.in_ok-h.was in (
       cases.right_name c.requires.ready c.field-first.ensures.0 c.requires.kind,
       (cases.sides c.requires.ready c.field-first.ensures.0 c.requires.kind c.infer-inferred.ensures
-          (expected_here c.propositions.ensures c.expect.ensures) l c.scan-side.ensures).right.low,
+          (expected_here c.propositions.ensures c.expect.ensures) l c.known_end-side.ensures).right.low,
     )
 
 pub infer_case-infer-r-requires : goal.infer_case-infer-r-requires
@@ -487,10 +487,10 @@ infer_case-agree-requires t c =
       known = (
         inferring.case_right_known c.requires.ready c.field-first.ensures.0 c.requires.kind c.infer-inferred.ensures (expected_here c.propositions.ensures c.expect.ensures) c.in_ok-h.was
             c.field-second.ensures.0 c.after-next.ensures c.bind-hidden.ensures c.infer-q.ensures c.unbind.ensures c.in_ok-q.was
-            c.field-third.ensures.0 c.after-last.ensures c.scan-side.ensures c.bind-hidden-2.ensures c.infer-r.ensures c.unbind-2.ensures,
+            c.field-third.ensures.0 c.after-last.ensures c.known_end-side.ensures c.bind-hidden-2.ensures c.infer-r.ensures c.unbind-2.ensures,
         inferring.case_left_known c.requires.ready c.field-first.ensures.0 c.requires.kind c.infer-inferred.ensures (expected_here c.propositions.ensures c.expect.ensures) c.in_ok-h.was
             c.field-second.ensures.0 c.after-next.ensures c.bind-hidden.ensures c.infer-q.ensures c.unbind.ensures c.in_ok-q.was
-            c.field-third.ensures.0 c.after-last.ensures c.scan-side.ensures c.bind-hidden-2.ensures c.infer-r.ensures c.unbind-2.ensures,
+            c.field-third.ensures.0 c.after-last.ensures c.known_end-side.ensures c.bind-hidden-2.ensures c.infer-r.ensures c.unbind-2.ensures,
       );
     })
 
@@ -499,7 +499,7 @@ infer_case-returns-in_err-agree t c =
     rw (passed_on c.from_residual-in_err-agree.ensures)
     (inferring.case_fail c.requires.ready c.field-first.ensures.0 c.requires.kind c.infer-inferred.ensures (expected_here c.propositions.ensures c.expect.ensures) c.in_ok-h.was
     c.field-second.ensures.0 c.after-next.ensures c.bind-hidden.ensures c.infer-q.ensures c.unbind.ensures c.in_ok-q.was
-    c.field-third.ensures.0 c.after-last.ensures c.scan-side.ensures c.bind-hidden-2.ensures c.infer-r.ensures c.unbind-2.ensures
+    c.field-third.ensures.0 c.after-last.ensures c.known_end-side.ensures c.bind-hidden-2.ensures c.infer-r.ensures c.unbind-2.ensures
     (rw (c.propositions-2.ensures.0, c.propositions-2.ensures.1) at c.agree.ensures) c.in_err-agree.was)
 
 pub infer_case-overflow_add-h : goal.infer_case-overflow_add-h
@@ -514,5 +514,5 @@ pub infer_case-returns : goal.infer_case-returns
 infer_case-returns t c =
     inferring.case_pass c.requires.ready c.field-first.ensures.0 c.requires.kind c.infer-inferred.ensures (expected_here c.propositions.ensures c.expect.ensures) c.in_ok-h.was
     c.field-second.ensures.0 c.after-next.ensures c.bind-hidden.ensures c.infer-q.ensures c.unbind.ensures c.in_ok-q.was
-    c.field-third.ensures.0 c.after-last.ensures c.scan-side.ensures c.bind-hidden-2.ensures c.infer-r.ensures c.unbind-2.ensures
+    c.field-third.ensures.0 c.after-last.ensures c.known_end-side.ensures c.bind-hidden-2.ensures c.infer-r.ensures c.unbind-2.ensures
     (rw (c.propositions-2.ensures.0, c.propositions-2.ensures.1) at c.agree.ensures) c.in_ok-agree.was
