@@ -51,10 +51,7 @@ fn entry(scope: &[Option<u32>; NAMES], name: usize, node: usize) -> Result<usize
     requires { name < name_space }
     ensures { Found (get_or scope.now name None) node result }
 {
-    match scope[name] {
-        None => Err(node),
-        Some(p) => Ok(p as usize),
-    }
+    scope[name].map(|p| p as usize).ok_or(node)
 }
 
 // Checking and inferring have an arm for each rule. An arm that binds a name or asks of two parts is a function of its own, which the

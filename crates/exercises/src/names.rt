@@ -24,6 +24,7 @@ fn may_follow(earlier: &[&[u8]], name: &[u8]) -> bool
 }
 
 // How many names there are; none, if they are more than three, repeated or malformed.
+#[tactic(auto, unfolding(definitions::specs::Exercises::bad_names, definitions::specs::Exercises::exercise_name_limit, definitions::specs::CallerNames::all_well_formed, definitions::specs::Exercises::repeated))]
 pub fn count_names(text: &[u8]) -> Option<usize>
     ensures { result ≡ count_of (names_in text.now) }
 {

@@ -44,6 +44,7 @@ struct NewParts<'a> {
 }
 
 // The header of the merged sheet, and all pairs.
+#[tactic(auto, unfolding(crate::specs::Parts::head_and_pairs))]
 fn put_pairs<S: Sink<u8>>(sink: &mut S, host: &AdmittedSheet, new: &NewParts)
     requires { InRange new.now.header }
     ensures { S.puts sink.old (head_and_pairs host.now new.now) sink.new }
@@ -74,6 +75,7 @@ fn put_records<S: Sink<u8>>(sink: &mut S, sheets: &NumberedSheets, k: usize)
 }
 
 // The text and the code.
+#[tactic(auto, unfolding(crate::specs::Parts::text_and_code))]
 fn put_text_and_code<S: Sink<u8>>(sink: &mut S, host: &AdmittedSheet, new: &NewParts)
     ensures { S.puts sink.old (text_and_code host.now new.now) sink.new }
 {
@@ -100,6 +102,7 @@ fn merged_header(h: Sheet, g: Sheet, names: Appended, propositions: Appended) ->
 }
 
 // What is appended, and the header that the merged sheet has with it.
+#[tactic(auto, unfolding(definitions::specs::Sheet::pair_size, definitions::specs::Sheet::name_limit, definitions::specs::Sheet::text_limit))]
 fn append_parts<'a>(sheets: &NumberedSheets, memory: &'a mut PartMemory) -> NewParts<'a>
     ensures parts { PartsOf sheets.now.host.now sheets.now.donor.now result }
     ensures accepted { Accepted sheets.now.host.now × Accepted sheets.now.donor.now }

@@ -169,6 +169,7 @@ struct Printer<'a> {
 }
 
 // A label: a proposition or a datatype.
+#[tactic(auto, unfolding(definitions::specs::Term::rename_label, definitions::specs::Display::display_label))]
 fn put_label<S: Sink<u8>>(sink: &mut S, label: Label, propositions: &Propositions)
     requires { HasLabel propositions.now label }
     ensures { S.puts sink.old (shown_in propositions.now label) sink.new }
@@ -232,6 +233,7 @@ fn is_body_bracketed(records: &[u16], ascribed: Option<usize>, style: Style) -> 
 }
 
 // What stands after the body of record `n`, if that is an ascription: a colon and its label.
+#[tactic(auto, unfolding(crate::specs::Ascriptions::after_body))]
 fn put_ascription<S: Sink<u8>>(sink: &mut S, p: &Printer, n: usize, ascribed: Option<usize>)
     requires has_term { HasTerm p.now n }
     requires has_label { OnSome ascribed (HasLabelOf p.now n) }

@@ -2,7 +2,8 @@
 use Prim.Native.Nat.{ℕ, ◌+◌, ◌<◌, max}
 use mathlib.Core.Path.{◌≡◌, refl, sym, ap, ◌∙◌}
 use mathlib.Core.Bool.{Bool, true, false, not, and-eq-true_iff}
-use Rattle.std.specs.Prelude.{None, Some}
+use Rattle.std.specs.Prelude.{leb, Option, None, Some, MatchOption}
+use Rattle.std.specs.Bool.{then_some}
 use mathlib.Core.List.{List}
 use lib.ListN.{drop}
 use native.Mathlib.Omega.{arith}
@@ -21,22 +22,26 @@ use Rattle.atom_reader.specs.Reading.{Measured}
 use Rattle.prop_frames.specs.Sides.{GoesOnAt, sides_agree, inserted, Joins}
 use Rattle.atom_reader.proofs.Sizes.{binary_bytes}
 
--- The connective at a place, if it binds strongly enough.
-pub none_there : (text : List ℕ) (at least : ℕ) → connective (drop at text) ≡ None → goes_on least (drop at text) ≡ None
-unfolding goes_on strong_enough
-none_there text at least e = rw e refl
-
-module _ {text : List ℕ} {at : ℕ} {c : read.Connective} (there : ConnectiveAt text at c) (least : ℕ) {s : ℕ} (strength : s ≡ connective_precedence (meant c)) where
-  pub too_weak : s < least → goes_on least (drop at text) ≡ None
+-- The connective at a place, if it binds strongly enough: what a filter by a test of its strength leaves of the connective there.
+module _ (text : List ℕ) (at least : ℕ) where
+  none_there : connective (drop at text) ≡ None → goes_on least (drop at text) ≡ None
   unfolding goes_on strong_enough
-  too_weak l = rw (there.reads, lt-leb least (connective_precedence (meant c)) (omega (arith, strength))) refl
+  none_there e = rw e refl
 
-  pub strong_enough_lem : (s < least → ⊥) → GoesOnAt text at least c
+  kept_if : (c : read.Connective) → ConnectiveAt text at c → (b : Bool) → b ≡ leb least (connective_precedence (meant c)) →
+      MatchOption (then_some b c) (goes_on least (drop at text) ≡ None) (GoesOnAt text at least)
   unfolding goes_on strong_enough
-  strong_enough_lem l = record {
-    within = there.within;
-    reads = rw (there.reads, le-leb least (connective_precedence (meant c)) (omega (arith, strength))) refl;
-  }
+  kept_if c there true e = record { within = there.within; reads = rw (there.reads, sym e) refl }
+  kept_if c there false e = rw (there.reads, sym e) refl
+
+  pub filtered : (test : read.Connective → Bool → Type 0)
+      → ((c : read.Connective) (b : Bool) → test c b → b ≡ leb least (connective_precedence (meant c)))
+      → (found kept : Option read.Connective)
+      → MatchOption found (connective (drop at text) ≡ None) (ConnectiveAt text at)
+      → MatchOption found (kept ≡ None) (λ c. (b : Bool) × test c b × (kept ≡ then_some b c))
+      → MatchOption kept (goes_on least (drop at text) ≡ None) (GoesOnAt text at least)
+  filtered test says None kept none is = rw is (none_there none)
+  filtered test says (Some c) kept there (b, tested, is) = rw is (kept_if c there b (says c b tested))
 
 same_not : (t : Bool) → same t false ≡ not t
 unfolding same

@@ -194,11 +194,7 @@ pub fn goes_on(text: &[u8], at: usize, least: usize) -> Option<Connective>
     requires { at ≤ length text.now }
     ensures { MatchOption result (goes_on least (drop at text.now) ≡ None) (GoesOnAt text.now at least) }
 {
-    let connective = connective_at(text, at)?;
-    if connective.strength() < least {
-        return None;
-    }
-    Some(connective)
+    connective_at(text, at).filter(|connective| least <= connective.strength())
 }
 
 // Whether a connective may join these sides: they stand in the brackets that are due, and this is no negation.

@@ -95,6 +95,7 @@ fn read_branch(names: &mut NameTable, at: usize, word: &[u8]) -> Option<NameRead
 }
 
 // The head of a case is in hand or, where the head and the name behind it wait, its first branch: then the branch that follows.
+#[tactic(auto, unfolding(term_openings::specs::Beginning::NamesBegin, term_openings::specs::Beginning::with_names))]
 fn give_branch(
     names: &mut NameTable,
     work: &mut Work,
@@ -125,6 +126,7 @@ fn give_branch(
 }
 
 // A whole term is in hand: takes the entry on top off the stack, and does what it waits for.
+#[tactic(auto, unfolding(term_openings::specs::Beginning::NamesBegin, term_openings::specs::Beginning::with_names))]
 pub fn give(names: &mut NameTable, work: &mut Work, s: Progress, hand: Hand) -> Option<State>
     requires { NamesBegin (AtTerm giving hand) names.old work.old s × (0 < s.depth) }
     ensures { NamesEnd (AtTerm giving hand) 0 names.old work.old s names.new work.new result }
@@ -180,6 +182,7 @@ fn ascribe(
 }
 
 // An argument follows: a closed term, to which the term in hand is applied.
+#[tactic(auto, unfolding(term_openings::specs::Beginning::NamesBegin, term_openings::specs::Beginning::with_names))]
 fn argument(names: &mut NameTable, work: &mut Work, s: Progress, hand: Hand) -> Option<State>
     requires { NamesBegin (AtTerm holding hand) names.old work.old s
         × (argument_follows (drop s.at names.old.text.now) ≡ true) }
@@ -192,6 +195,7 @@ fn argument(names: &mut NameTable, work: &mut Work, s: Progress, hand: Hand) -> 
 }
 
 // A term is in hand to which more may belong: an argument, a label, or neither.
+#[tactic(auto, unfolding(term_stack::specs::Turning::TurnBegins, term_stack::specs::Turning::scene_of))]
 pub fn chain(
     types: &[u8],
     names: &mut NameTable,

@@ -151,6 +151,7 @@ pub fn over_part(form: Form, part: Part, hand: Hand) -> Hand
 // and `make` the progress before a term with the term that is in hand behind it.
 
 // Makes the record of a node, whose term is in hand then, if no limit is passed.
+#[tactic(auto, unfolding(crate::specs::Growing::node_row, definitions::specs::TermMemory::seven))]
 pub fn make(work: &mut Work, s: Progress, node: Node, hand: Hand) -> Option<Progress>
     requires { hand.tally < 65536 }
     ensures { MatchOption result (Unmade s.used hand.nest)

@@ -15,10 +15,6 @@ host c = beside_header c.header-h.ensures.is c.header-h.ensures.accepted
 donor : (c : After-header-g) → AcceptedSheet c.args.sheets.now.donor.now c.header-g.result
 donor c = beside_header c.header-g.ensures.is c.header-g.ensures.accepted
 
-pub append_names-names-requires : goal.append_names-names-requires
-unfolding pair_size name_limit text_limit
-append_names-names-requires c = record { for_pairs = omega arith; for_bytes = omega arith }
-
 -- each name of the donor has a number
 pub append_propositions-propositions-requires-clause-numbers : goal.append_propositions-propositions-requires-clause-numbers
 append_propositions-propositions-requires-clause-numbers c =

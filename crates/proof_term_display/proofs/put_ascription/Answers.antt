@@ -4,10 +4,6 @@ use Rattle.proof_term_display.specs.Ascriptions.{after_body}
 use Rattle.proof_term_display.proofs.Labels.{printable_label, label_shown}
 use Rattle.proof_term_display.proofs.put_ascription.Goals as goal
 
-pub returns-in_default : goal.returns-in_default
-unfolding after_body
-returns-in_default g c = rw c.in_default.is (g.met.S.Sink.laws.none _)
-
 pub returns : goal.returns
 unfolding after_body
 returns g c =

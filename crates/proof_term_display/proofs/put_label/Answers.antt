@@ -13,7 +13,3 @@ pub returns-in-Datatype : goal.returns-in-Datatype
 unfolding rename_label display_label
 returns-in-Datatype g c =
     rw c.in-Datatype.is (put_as g.S.Sink.puts (c.name.ensures ∙ ap (name_of c.args.propositions.now.memory) c.from.ensures) c.put_all.ensures)
-
-pub returns-in-Proposition : goal.returns-in-Proposition
-unfolding rename_label display_label
-returns-in-Proposition g c = rw (c.in-Proposition.is, ← c.from-in-Proposition.ensures) c.put_proposition.ensures

@@ -11,10 +11,6 @@ pub returns-in_err-due : goal.returns-in_err-due
 unfolding NamesBegin NamesEnd with_names
 returns-in_err-due c z held = rw c.from_residual.ensures (argument_not_due held c.requires.1 c.in_err-due.ensures)
 
-pub expect-requires : goal.expect-requires
-unfolding NamesBegin with_names
-expect-requires c = c.requires.0.holds.behind.placed.within
-
 pub returns-in_err-start : goal.returns-in_err-start
 unfolding NamesBegin NamesEnd with_names
 returns-in_err-start c z held =

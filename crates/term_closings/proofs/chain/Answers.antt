@@ -9,10 +9,6 @@ use Rattle.term_openings.proofs.ClosedTerms.{ends_within}
 use Rattle.term_closings.proofs.Chained.{whole_term}
 use Rattle.term_closings.proofs.chain.Goals as goal
 
-pub argument_follows-requires : goal.argument_follows-requires
-unfolding TurnBegins scene_of
-argument_follows-requires c = c.requires.holds.behind.placed.within
-
 pub argument-requires : goal.argument-requires
 unfolding TurnBegins NamesBegin scene_of with_names
 argument-requires c =
@@ -22,14 +18,6 @@ argument-requires c =
 pub returns-then-argument_follows : goal.returns-then-argument_follows
 unfolding TurnEnds NamesEnd scene_of with_names left_at
 returns-then-argument_follows c before held = ends_within _ _ _ _ _ (c.argument.ensures (scene_of _ [] c.args.names.now before _) held) (omega arith)
-
-pub expect-requires : goal.expect-requires
-unfolding TurnBegins scene_of
-expect-requires c = c.requires.holds.behind.placed.within
-
-pub ascribe-requires : goal.ascribe-requires
-unfolding TurnBegins scene_of
-ascribe-requires c = (c.requires, sym c.argument_follows.ensures ∙ c.if-argument_follows.false, c.in-Some.ensures)
 
 pub returns : goal.returns
 unfolding TurnEnds scene_of

@@ -8,14 +8,6 @@ use Rattle.term_openings.proofs.ClosedTerms.{ends_within}
 use Rattle.term_closings.proofs.Tops.{gives_top}
 use Rattle.term_closings.proofs.give.Goals as goal
 
-pub offset_bounds-work-below : goal.offset_bounds-work-below
-unfolding NamesBegin with_names
-offset_bounds-work-below c = omega (arith, c.requires.0.holds.behind.stored.few_entries)
-
-pub bounds-work-below : goal.bounds-work-below
-unfolding NamesBegin with_names
-bounds-work-below c = omega (arith, c.requires.0.holds.behind.stored.few_entries, c.requires.1)
-
 pub give_bracket-requires : goal.give_bracket-requires
 unfolding NamesBegin TextBegins with_text with_names
 give_bracket-requires c = let pre = c.requires in record { value = with_names pre.0.value [] _; holds = gives_top _ pre.0.holds pre.1 c.in-Bracket.is }

@@ -20,11 +20,6 @@ unfolding NamesEnd with_names
 returns-in_err-due c z g =
     rw c.from_residual.ensures (branch_not_due (next_branch c.args.before _ _ _ (entry_for g)) g.to c.in_err-due.ensures)
 
-pub read_branch-requires : goal.read_branch-requires
-unfolding NamesBegin with_names
-read_branch-requires c =
-    c.requires.holds.to.placed.within
-
 pub returns-in_err-branch : goal.returns-in_err-branch
 unfolding NamesEnd with_names
 returns-in_err-branch c z g =

@@ -18,10 +18,6 @@ use Rattle.exercises.specs.Names.{names_of, with_name}
 use Rattle.exercises.proofs.names.count_names.Goals as goal
 use Rattle.exercises.proofs.names.count_names.Goals.{Else-not-may_follow}
 
-pub loop-name-init : goal.loop-name-init
-unfolding bad_names exercise_name_limit all_well_formed repeated
-loop-name-init c = record { all = refl; kept = refl; good = refl; few = omega arith }
-
 pub returns-then-not-may_follow : goal.returns-then-not-may_follow
 returns-then-not-may_follow c =
     let l = c.loop-name in
