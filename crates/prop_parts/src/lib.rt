@@ -72,16 +72,16 @@ static SIGNS: [(&[u8], Sign); 6] = [
     ),
 ];
 
-// The sign at `at`. The row is matched for the reason that words::start_of gives.
+// The sign at `at`.
 pub fn sign_at(text: &[u8], at: usize) -> Option<Sign>
     requires { at ≤ length text.now }
     ensures { MatchOption result (sign (drop at text.now) ≡ None) (SignAt text.now at) }
 {
     let rest = &text[at..];
-    match SIGNS.iter().find(|row| rest.starts_with(row.0)) {
-        Some(row) => Some(row.1),
-        None => None,
-    }
+    SIGNS
+        .iter()
+        .find(|row| rest.starts_with(row.0))
+        .map(|row| row.1)
 }
 
 // The bytes of ⊤ and of ⊥.

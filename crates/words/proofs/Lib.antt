@@ -6,3 +6,4 @@ pub mod Indexing
 pub mod Numbers
 pub mod NewName
 pub mod Added
+pub mod Rows

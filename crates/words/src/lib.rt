@@ -108,15 +108,15 @@ static STARTS: [(&[u8], Start); 9] = [
     (b"sorry", Start::Sorry),
 ];
 
-// The start of a term whose first word these bytes are. Tried: of a `map_or` over the row a proof knows the closure's own postcondition
-// alone, which it cannot open.
+// The start of a term whose first word these bytes are.
 pub fn start_of(word: &[u8]) -> Start
     ensures { result ≡ as_start (start_of word.now) }
 {
-    match STARTS.iter().find(|row| same_name(word, row.0)) {
-        Some(row) => row.1,
-        None => Start::Other,
-    }
+    STARTS
+        .iter()
+        .find(|row| same_name(word, row.0))
+        .map(|row| row.1)
+        .unwrap_or(Start::Other)
 }
 
 // Whether an argument follows at `at`: a blank, and then a name, `sorry` or a bracket.

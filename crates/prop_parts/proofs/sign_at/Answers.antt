@@ -1,6 +1,6 @@
 -- The signs are looked for in turn, and the row of the first that stands there has the sign.
 use Prim.Native.Nat.{ℕ, ◌≤◌}
-use mathlib.Core.Path.{◌≡◌, refl}
+use mathlib.Core.Path.{◌≡◌, refl, ap, ◌∙◌}
 use mathlib.Core.Bool.{Bool, true, false, cond}
 use mathlib.Core.List.{List}
 use lib.Dec.{eqb}
@@ -15,6 +15,7 @@ use Rattle.std.proofs.lemmas.Iterator.{YieldsList-from_slice}
 use Rattle.std.proofs.lemmas.Iterator.Search.{find_from_yields_List}
 use Rattle.definitions.specs.Utf8.{utf8}
 use Rattle.definitions.specs.TermReader.{sign}
+use Rattle.words.proofs.Rows.{mapped_row}
 use Rattle.words.proofs.Runs.{expect_found, expect_fails}
 use Rattle.prefix_code.specs.declared.Quantifier.TheVariants.{ForAll, Exists}
 use Rattle.prop_parts.specs.declared.Constant.TheVariants.{Top, Bottom}
@@ -24,18 +25,21 @@ use Rattle.prop_parts.specs.declared.Sign.TheVariants as read
 use Rattle.prop_parts.specs.Found.{SignAt}
 use Rattle.prop_parts.proofs.Signs.{top_found, bottom_found, negation_found, bracket_found, all_found, some_found, no_sign}
 use Rattle.prop_parts.proofs.sign_at.Goals as goal
-use Rattle.prop_parts.proofs.sign_at.Goals.{After-find}
 
--- what the row that was found says
-abbrev SignFound : List ℕ → ℕ → Option (Bor (List ℕ) × Sign) → Type 0
-SignFound text at o = MatchOption o (sign (drop at text) ≡ None) (λ row. SignAt text at row.1)
+-- a row of the table
+abbrev Row : Type 0
+Row = Bor (List ℕ) × Sign
+
+-- what the sign of a row says, if one was found
+abbrev SignFound : List ℕ → ℕ → Option Sign → Type 0
+SignFound text at o = MatchOption o (sign (drop at text) ≡ None) (SignAt text at)
 
 module _ (text : List ℕ) (at : ℕ) (le : at ≤ length text) (p q r s t u : Bor (List ℕ)) where
   abbrev front : List ℕ
   front = take (length text - at) (drop at text)
 
   first_sign : (a b c d e f : Bool) → starts_with eqb front (utf8 "⊤") ≡ a → starts_with eqb front (utf8 "⊥") ≡ b → starts_with eqb front (utf8 "¬") ≡ c → starts_with eqb front (utf8 "(") ≡ d → starts_with eqb front (utf8 "∀") ≡ e → starts_with eqb front (utf8 "∃") ≡ f →
-      SignFound text at (cond a (Some (p, read.Constant Top)) (cond b (Some (q, read.Constant Bottom)) (cond c (Some (r, read.Opening Negation)) (cond d (Some (s, read.Opening Bracket)) (cond e (Some (t, read.Opening (Binder ForAll))) (cond f (Some (u, read.Opening (Binder Exists))) None))))))
+      SignFound text at (option_map (λ (row : Row). row.1) (cond a (Some (p, read.Constant Top)) (cond b (Some (q, read.Constant Bottom)) (cond c (Some (r, read.Opening Negation)) (cond d (Some (s, read.Opening Bracket)) (cond e (Some (t, read.Opening (Binder ForAll))) (cond f (Some (u, read.Opening (Binder Exists))) None)))))))
   first_sign true b c d e f ha hb hc hd he hf = top_found (expect_found text at le (utf8 "⊤") ha)
   first_sign false true c d e f ha hb hc hd he hf = bottom_found (expect_fails text at le (utf8 "⊤") ha) (expect_found text at le (utf8 "⊥") hb)
   first_sign false false true d e f ha hb hc hd he hf = negation_found (expect_fails text at le (utf8 "⊤") ha) (expect_fails text at le (utf8 "⊥") hb) (expect_found text at le (utf8 "¬") hc)
@@ -44,14 +48,9 @@ module _ (text : List ℕ) (at : ℕ) (le : at ≤ length text) (p q r s t u : B
   first_sign false false false false false true ha hb hc hd he hf = some_found (expect_fails text at le (utf8 "⊤") ha) (expect_fails text at le (utf8 "⊥") hb) (expect_fails text at le (utf8 "¬") hc) (expect_fails text at le (utf8 "(") hd) (expect_fails text at le (utf8 "∀") he) (expect_found text at le (utf8 "∃") hf)
   first_sign false false false false false false ha hb hc hd he hf = no_sign text at (expect_fails text at le (utf8 "⊤") ha) (expect_fails text at le (utf8 "⊥") hb) (expect_fails text at le (utf8 "¬") hc) (expect_fails text at le (utf8 "(") hd) (expect_fails text at le (utf8 "∀") he) (expect_fails text at le (utf8 "∃") hf)
 
-found : (c : After-find) → SignFound c.args.text.now c.args.at (option_map (λ r. r.now) c.find.result)
-found c =
-    let is = find_from_yields_List (λ row. starts_with eqb (take (length c.args.text.now - c.args.at) (drop c.args.at c.args.text.now)) row.0.now) _ _ c.find.result c.find.ensures.ran
-    (YieldsList-from_slice _ c.iter.ensures.rest) (λ x b q k. search (rules, tests)) in
+pub returns : goal.returns
+returns c =
+    let first = find_from_yields_List (λ row. starts_with eqb (take (length c.args.text.now - c.args.at) (drop c.args.at c.args.text.now)) row.0.now) _ _ c.find.result c.find.ensures.ran
+        (YieldsList-from_slice _ c.iter.ensures.rest) (λ x b q k. search (rules, tests)) in
+    let is = mapped_row _ (λ (row : Row). row.1) c.find.result c.map.result c.map.ensures.cases (λ row s gives. search rules) ∙ ap (option_map (λ (row : Row). row.1)) first in
     rw is (first_sign c.args.text.now c.args.at c.requires _ _ _ _ _ _ _ _ _ _ _ _ refl refl refl refl refl refl)
-
-pub returns-in-Some : goal.returns-in-Some
-returns-in-Some c = let there = found (goal.at.returns-in-Some c).After-find in rw c.in-Some.is at there
-
-pub returns-in-None : goal.returns-in-None
-returns-in-None c = let there = found (goal.at.returns-in-None c).After-find in rw c.in-None.is at there
