@@ -17,9 +17,6 @@ loop-init c =
     let all : c.args.count - 0 ≡ c.args.count = omega arith in
     rw all (record { inside = c.requires; same = several_run _ _ (drop c.args.at c.args.code.now) })
 
-pub parameter_end-requires : goal.parameter_end-requires
-parameter_end-requires c = c.loop.invariant.inside
-
 pub returns-in_err-i : goal.returns-in_err-i
 returns-in_err-i c = rw c.from_residual.ensures (walk_stop _ _ _ _ c.loop.invariant (omega arith) c.in_err-i.ensures)
 

@@ -27,9 +27,6 @@ returns c =
     let none : c.loop-needed.needed ≡ 0 = omega arith in
     walk_end _ _ _ c.requires (rw none at c.loop-needed.invariant.0)
 
-pub head_end-requires : goal.head_end-requires
-head_end-requires c = c.loop-needed.invariant.0.inside
-
 pub returns-in_err-end : goal.returns-in_err-end
 returns-in_err-end c =
     rw c.from_residual.ensures (walk_no_head _ _ _ _ _ c.loop-needed.invariant.0 c.loop-needed-test.true c.in_err-end.ensures)
