@@ -71,6 +71,7 @@ pub struct Index<'a> {
 
 // The number of a name's equal, or the slot that the name would enter. Slots that hold others' numbers are stepped over from its start
 // slot on, round the end. A closure says whether the name of a number that a slot holds is the equal.
+#[tactic(auto, unfolding(definitions::specs::NameIndex::start_slot, definitions::specs::NameIndex::slot_count))]
 pub fn probe_by<F: Fn(usize) -> bool>(
     slots: &[u16],
     name: &[u8],
@@ -121,6 +122,7 @@ impl Index<'_> {
 }
 
 // Name i enters the index of the names before it, if it does not repeat one of them.
+#[tactic(auto, unfolding(definitions::specs::Sheet::name_limit))]
 pub fn enter(slots: &mut [u16], memory: &Memory, i: usize)
     requires i_lt_name_limit { (i < name_limit) × LiesWithin memory.now }
     requires slots_value { slots.old ≡ index (name_of memory.now) i }

@@ -8,17 +8,6 @@ pub loop-i-init : goal.loop-i-init
 unfolding free
 loop-i-init c = (omega arith, none_entered _ (rw c.requires.slots_len.0 at c.fill.ensures.after (λ y e. e)))
 
-pub enter-requires : goal.enter-requires
-enter-requires c =
-    let pre = c.requires in
-    record {
-      i_lt_name_limit = (omega (arith, c.loop-i-test.true, pre.name_count_bound), pre.slots_len.1);
-      slots_value = c.loop-i.invariant.1;
-    }
-
-pub loop-i-preserved : goal.loop-i-preserved
-loop-i-preserved c = (omega (arith, c.loop-i-test.true), c.enter.ensures)
-
 pub shape_of-slots : goal.shape_of-slots
 shape_of-slots c =
     let (inside, is) = c.loop-i.invariant in

@@ -25,10 +25,6 @@ pub returns-in_default : goal.returns-in_default
 returns-in_default c =
     repeated _ _ c.requires.slots_value c.requires.i_lt_name_limit.0 c.any_name.ensures (sym c.probe.ensures ∙ c.in_default.is)
 
-pub overflow_cast-slots : goal.overflow_cast-slots
-unfolding name_limit
-overflow_cast-slots c = omega (arith, c.requires.i_lt_name_limit.0)
-
 pub offset_bounds-slots-at : goal.offset_bounds-slots-at
 unfolding slot_count
 offset_bounds-slots-at c = omega (arith, absent_below _ _ _ (would_enter c))

@@ -6,14 +6,6 @@ use Rattle.definitions.specs.NameIndex.{start_slot, slot_count, free}
 use Rattle.name_index.proofs.Probing.{slot_here, one_further, at_free, at_equal, past_all}
 use Rattle.name_index.proofs.probe_by.Goals as goal
 
-pub overflow_add-at : goal.overflow_add-at
-unfolding start_slot slot_count
-overflow_add-at g c = omega (arith, c.start_slot-start.ensures)
-
-pub bounds-slots-at : goal.bounds-slots-at
-unfolding slot_count
-bounds-slots-at g c = omega (arith, c.requires.slots_len)
-
 pub returns-then-number : goal.returns-then-number
 unfolding slot_count free
 returns-then-number g c = λ named agrees.
