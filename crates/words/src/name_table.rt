@@ -25,7 +25,7 @@ pub struct NameTable<'t> {
 }
 
 // Stores the pair of a name that stands from `at` to `end` as number `count`.
-#[tactic(auto, unfolding(crate::specs::Names::with_number))]
+#[tactic(auto, unfolding(crate::specs::Names::with_number, definitions::specs::Sheet::pair_size, definitions::specs::TermText::term_text_limit, definitions::specs::Sheet::name_length_limit, crate::specs::Names::with_pair))]
 fn put_pair(pairs: &mut [u8], count: u16, at: usize, end: usize)
     requires { PairFits pairs.old count at end }
     ensures { pairs.new ≡ with_pair pairs.old count at end }
