@@ -53,6 +53,7 @@ pub struct PropRead {
 // of such a struct a caller does not know at its end what the memories hold. `Begins` says of all of them at once what is required.
 
 // One parameter of an atom: a name, bound by a quantifier or not.
+#[tactic(auto, unfolding(definitions::specs::TermText::term_text_limit))]
 fn read_parameter(
     names: &mut NameTable,
     bound: &[u16],
@@ -149,6 +150,7 @@ fn put_atom(code: &mut [u8], to: usize, number: u16, parameters: usize)
 }
 
 // An atom whose name ends at `end`.
+#[tactic(auto, unfolding(definitions::specs::TermText::term_text_limit))]
 pub fn read_atom(
     names: &mut NameTable,
     bound: &[u16],

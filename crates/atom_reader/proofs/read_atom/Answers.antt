@@ -17,12 +17,6 @@ returns-in_err-number c ns b =
     let none : c.from_residual.result ≡ None = search rules in
     rw none (atom_full ns _ c.args.end _ c.in_err-number.ensures)
 
-pub overflow_add-place : goal.overflow_add-place
-unfolding term_text_limit
-overflow_add-place c =
-    let pre = c.requires.0 in
-    omega (arith, pre.near, pre.within, c.args.names.now.table.short)
-
 pub atom_parameters-requires : goal.atom_parameters-requires
 atom_parameters-requires c =
     let pre = c.requires in

@@ -12,11 +12,5 @@ returns-in_err-name c ns b =
     let none : c.from_residual.result ≡ None = search rules in
     rw none (parameter_not ns _ c.in_err-name.ensures)
 
-pub put_parameter-size-requires : goal.put_parameter-size-requires
-unfolding term_text_limit
-put_parameter-size-requires c =
-    let pre = c.requires in
-    omega (arith, pre.near, pre.within, c.args.names.now.table.short)
-
 pub returns : goal.returns
 returns c ns b = parameter_given b c.in_ok-name.ensures (omega (arith, c.requires.deep)) (rw c.from.ensures at c.parameter_kind-kind.ensures) c.put_parameter-size.ensures
