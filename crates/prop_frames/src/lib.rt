@@ -66,6 +66,7 @@ fn put_binder(code: &mut [u8], to: usize, quantifier: Quantifier, object: u16, d
 }
 
 // What stands before a part: the sign at `p` and what belongs to it. Gives the place of the part.
+#[tactic(auto, unfolding(definitions::specs::TermText::term_text_limit))]
 pub fn open_front(
     names: &mut NameTable,
     bound: &mut [u16],

@@ -4,9 +4,6 @@ use borrow.Author.Rules.{rules}
 use Rattle.prop_frames.proofs.Sides.{joins_sides}
 use Rattle.prop_frames.proofs.join.Goals as goal
 
-pub returns-then-not-may_join : goal.returns-then-not-may_join
-returns-then-not-may_join c p q m n = record { answer = sym (c.may_join.ensures p q m n) ∙ c.if-not-may_join.true }
-
 pub returns : goal.returns
 returns c p q m n =
     joins_sides m n (c.may_join.ensures p q m n) c.if-not-may_join.false (rw c.byte.ensures at c.insert.ensures) (search rules) c.strength.ensures

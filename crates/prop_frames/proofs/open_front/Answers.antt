@@ -10,10 +10,6 @@ use Rattle.prop_frames.proofs.Binders.{opens_bracket, opens_negation, opens_not,
 use Rattle.prop_frames.proofs.open_front.Goals as goal
 use Rattle.prop_frames.proofs.open_front.Goals.{After-size}
 
-pub overflow_add-at : goal.overflow_add-at
-unfolding term_text_limit
-overflow_add-at c = omega (arith, c.size.ensures, c.requires.sign_within, c.args.names.now.table.short)
-
 -- after the sign
 after_within : (c : After-size) → c.args.p.at + c.size.result ≤ length c.args.names.now.text.now
 after_within c = rw c.size.ensures c.requires.sign_within
@@ -30,12 +26,6 @@ returns-in-Negation c ns b =
 
 pub binder_names-requires : goal.binder_names-requires
 binder_names-requires c = after_within (goal.at.binder_names-requires c).After-size
-
-pub put_binder-requires : goal.put_binder-requires
-unfolding term_text_limit
-put_binder-requires c =
-    let pre = c.requires.begins in
-    omega (arith, pre.near, pre.within, c.args.names.now.table.short)
 
 pub returns-in_err-read-in-Binder : goal.returns-in_err-read-in-Binder
 returns-in_err-read-in-Binder c ns b =
