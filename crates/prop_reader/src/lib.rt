@@ -141,6 +141,7 @@ fn read_datatype(
 }
 
 // The proposition at `at`, within the limits and in no brackets of its own.
+#[tactic(auto, unfolding(definitions::specs::TermText::term_text_limit))]
 fn read_proposition(
     names: &mut NameTable,
     at: usize,

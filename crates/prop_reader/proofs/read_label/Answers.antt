@@ -9,12 +9,6 @@ pub returns-in_default : goal.returns-in_default
 returns-in_default c =
     proposition_label _ (other_unlisted _ c.args.names.now.text.now c.args.at c.in_default.ensures) c.read_proposition.result c.read_proposition.ensures
 
-pub slice_bounds-is_listed-count : goal.slice_bounds-is_listed-count
-slice_bounds-is_listed-count c = omega (arith, c.in-Some.ensures.from)
-
-pub slice_bounds-is_listed-start : goal.slice_bounds-is_listed-start
-slice_bounds-is_listed-start c = omega (arith, c.in-Some.ensures.from)
-
 pub read_datatype-requires : goal.read_datatype-requires
 read_datatype-requires c = lone_place c.in-Some.ensures
 

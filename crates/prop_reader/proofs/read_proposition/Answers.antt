@@ -34,18 +34,6 @@ overflow_cast-result c =
     let (p, reads, given) = (c.in_ok-read.ensures [] (binds_nothing _ _)).answer in
     omega (arith, pre.near, c.args.names.now.table.short, given.from, given.within)
 
-pub overflow_add-result : goal.overflow_add-result
-unfolding term_text_limit
-overflow_add-result c =
-    let pre = c.requires in
-    omega (arith, c.if-size-gt-CODE_LIMIT.false, pre.near, pre.within, c.args.names.now.table.short)
-
-pub overflow_add-result-2 : goal.overflow_add-result-2
-unfolding term_text_limit
-overflow_add-result-2 c =
-    let pre = c.requires in
-    omega (arith, c.if-size-gt-CODE_LIMIT.false, pre.near, pre.within, c.args.names.now.table.short)
-
 pub returns : goal.returns
 unfolding code_limit proposition_nesting_limit
 returns c =
