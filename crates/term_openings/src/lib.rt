@@ -39,6 +39,7 @@ fn name_for(
 }
 
 // A bracket that opens, read for a purpose: unit where it closes at once, or else an entry for what stands in it.
+#[tactic(auto, unfolding(crate::specs::Beginning::TextBegins, crate::specs::Beginning::with_text))]
 fn open_for(text: &[u8], work: &mut Work, s: Progress, p: Purpose) -> Option<State>
     requires { TextBegins (AtClosed p) text.now work.old s × Wordless text.now s.at }
     ensures { TextEnds (AtClosed p) 0 text.now work.old s work.new result }
@@ -53,6 +54,7 @@ fn open_for(text: &[u8], work: &mut Work, s: Progress, p: Purpose) -> Option<Sta
 }
 
 // A closed term at `s.at`, read for a purpose: a name, `sorry`, unit, or a bracket that opens.
+#[tactic(auto, unfolding(crate::specs::Beginning::NamesBegin, crate::specs::Beginning::with_names))]
 pub fn closed_for(names: &mut NameTable, work: &mut Work, s: Progress, p: Purpose) -> Option<State>
     requires { NamesBegin (AtClosed p) names.old work.old s }
     ensures { NamesEnd (AtClosed p) 0 names.old work.old s names.new work.new result }
@@ -70,6 +72,7 @@ pub fn closed_for(names: &mut NameTable, work: &mut Work, s: Progress, p: Purpos
 }
 
 // After `case`: a blank, and then the head.
+#[tactic(auto, unfolding(crate::specs::Beginning::TextBegins, crate::specs::Beginning::with_text))]
 fn start_case(text: &[u8], work: &mut Work, s: Progress) -> Option<State>
     requires { TextBegins (Started case_word) text.now work.old s }
     ensures { TextEnds (Started case_word) 0 text.now work.old s work.new result }
@@ -80,6 +83,7 @@ fn start_case(text: &[u8], work: &mut Work, s: Progress) -> Option<State>
 
 // After the word of a named function: a blank, and then the body, a closed term. It shares with `start_case` the line for the blank
 // alone.
+#[tactic(auto, unfolding(crate::specs::Beginning::NamesBegin, crate::specs::Beginning::with_names))]
 fn call(
     names: &mut NameTable,
     work: &mut Work,
@@ -105,6 +109,7 @@ pub fn name_after(names: &mut NameTable, at: usize, what: &[u8]) -> Option<NameR
 }
 
 // After `let`: two names in brackets, and then the head.
+#[tactic(auto, unfolding(crate::specs::Beginning::NamesBegin, crate::specs::Beginning::with_names))]
 fn start_let(names: &mut NameTable, work: &mut Work, s: Progress) -> Option<State>
     requires { NamesBegin (Started let_word) names.old work.old s }
     ensures { NamesEnd (Started let_word) 0 names.old work.old s names.new work.new result }
@@ -146,6 +151,7 @@ fn parameter_label(
 }
 
 // After `fn`: the parameter with its label, if it has one, and then the body.
+#[tactic(auto, unfolding(term_stack::specs::Turning::TurnBegins, term_stack::specs::Turning::scene_of))]
 fn start_function(
     types: &[u8],
     names: &mut NameTable,
@@ -174,6 +180,7 @@ fn start_function(
 }
 
 // A term begins at `s.at`: goes on by its first word.
+#[tactic(auto, unfolding(term_stack::specs::Turning::TurnBegins, term_stack::specs::Turning::scene_of))]
 pub fn start(
     types: &[u8],
     names: &mut NameTable,

@@ -6,10 +6,6 @@ use Rattle.term_openings.proofs.ClosedTerms.{ends_within}
 use Rattle.term_openings.proofs.FirstWords.{body_not, body_closed}
 use Rattle.term_openings.proofs.call.Goals as goal
 
-pub expect-requires : goal.expect-requires
-unfolding NamesBegin with_names
-expect-requires c = c.requires.holds.started.placed.within
-
 pub returns-in_err-body : goal.returns-in_err-body
 unfolding NamesEnd with_names
 returns-in_err-body c z called = rw c.from_residual.ensures (body_not called c.in_err-body.ensures)

@@ -6,14 +6,6 @@ use Rattle.term_openings.specs.Beginning.{with_text, with_names, TextBegins, Tex
 use Rattle.term_openings.proofs.ClosedTerms.{ends_behind, is_sorry_lem, sorry_leaf, sorry_long, wordless}
 use Rattle.term_openings.proofs.closed_for.Goals as goal
 
-pub name_end-requires : goal.name_end-requires
-unfolding NamesBegin with_names
-name_end-requires c = c.requires.holds.for.placed.within
-
-pub word_end-end-requires : goal.word_end-end-requires
-unfolding NamesBegin with_names
-word_end-end-requires c = c.requires.holds.for.placed.within
-
 pub use_leaf-requires : goal.use_leaf-requires
 unfolding NamesBegin with_names between
 use_leaf-requires c =

@@ -7,10 +7,6 @@ use Rattle.term_openings.specs.Beginning.{with_text, TextBegins, TextEnds}
 use Rattle.term_openings.proofs.ClosedTerms.{ends_behind, no_bracket, unit_leaf, bracket_opens, bracket_enters}
 use Rattle.term_openings.proofs.open_for.Goals as goal
 
-pub expect-requires : goal.expect-requires
-unfolding TextBegins with_text
-expect-requires c = c.requires.0.holds.for.placed.within
-
 pub returns-in_err-inside : goal.returns-in_err-inside
 unfolding TextEnds with_text
 returns-in_err-inside c z closed =

@@ -17,10 +17,6 @@ scene c before =
     let given = c.args in
     scene_of given.types.now given.names.now.text.now given.names.now before given.code.now
 
-pub word_end-end-requires : goal.word_end-end-requires
-unfolding TurnBegins scene_of
-word_end-end-requires c = c.requires.holds.before.placed.within
-
 pub start_function-requires : goal.start_function-requires
 unfolding TurnBegins scene_of between meant
 start_function-requires c =

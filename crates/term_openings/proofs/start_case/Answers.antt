@@ -6,10 +6,6 @@ use Rattle.term_openings.specs.Beginning.{with_text, TextBegins, TextEnds}
 use Rattle.term_openings.proofs.FirstWords.{case_not, case_comes, case_opens}
 use Rattle.term_openings.proofs.start_case.Goals as goal
 
-pub expect-requires : goal.expect-requires
-unfolding TextBegins with_text
-expect-requires c = c.requires.holds.placed.within
-
 pub returns-in_err-head : goal.returns-in_err-head
 unfolding TextEnds with_text
 returns-in_err-head c z started = rw c.from_residual.ensures (case_not started c.in_err-head.ensures)

@@ -7,11 +7,6 @@ use Rattle.term_openings.proofs.Noting.{noting}
 use Rattle.term_openings.proofs.Functions.{parameter_not, label_place, label_not, arrow_not, function_comes, function_long, function_opens}
 use Rattle.term_openings.proofs.start_function.Goals as goal
 
-pub name_after-requires : goal.name_after-requires
-unfolding TurnBegins scene_of
-name_after-requires c =
-    c.requires.holds.placed.within
-
 pub returns-in_err-name : goal.returns-in_err-name
 unfolding TurnEnds scene_of
 returns-in_err-name c before started = rw c.from_residual.ensures (parameter_not started c.in_err-name.ensures)
@@ -24,11 +19,6 @@ pub returns-in_err-read : goal.returns-in_err-read
 unfolding TurnEnds scene_of
 returns-in_err-read c before started =
     rw c.from_residual-in_err-read.ensures (label_not started c.in_ok-name.ensures c.in_err-read.ensures)
-
-pub expect-requires : goal.expect-requires
-expect-requires c =
-    let read = c.in_ok-read.ensures.holds in
-    rw c.in_ok-name.ensures.holds.noted.same_text at read.within
 
 pub returns-in_err-body : goal.returns-in_err-body
 unfolding TurnEnds scene_of

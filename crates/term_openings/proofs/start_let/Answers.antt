@@ -7,30 +7,14 @@ use Rattle.term_openings.proofs.Noting.{noting}
 use Rattle.term_openings.proofs.FirstWords.{first_not, second_not, let_not, let_comes, let_long, let_opens}
 use Rattle.term_openings.proofs.start_let.Goals as goal
 
-pub name_after-requires : goal.name_after-requires
-unfolding NamesBegin with_names
-name_after-requires c =
-    c.requires.holds.placed.within
-
 pub returns-in_err-first : goal.returns-in_err-first
 unfolding NamesEnd with_names
 returns-in_err-first c z started = rw c.from_residual.ensures (first_not started c.in_err-first.ensures)
-
-pub name_after-requires-2 : goal.name_after-requires-2
-unfolding NamesBegin with_names
-name_after-requires-2 c =
-    let first = c.in_ok-first.ensures.holds in
-    rw first.noted.same_text first.within
 
 pub returns-in_err-second : goal.returns-in_err-second
 unfolding NamesEnd with_names
 returns-in_err-second c z started =
     rw c.from_residual-in_err-second.ensures (second_not started c.in_ok-first.ensures c.in_err-second.ensures)
-
-pub expect-requires : goal.expect-requires
-expect-requires c =
-    let second = c.in_ok-second.ensures.holds in
-    rw c.in_ok-first.ensures.holds.noted.same_text at second.within
 
 pub returns-in_err-head : goal.returns-in_err-head
 unfolding NamesEnd with_names
