@@ -43,6 +43,7 @@ fn goes_on(state: State) -> bool
 }
 
 // One turn. As in `term_openings`, each function is lent the memories that it reads or writes and no others.
+#[tactic(auto, unfolding(term_stack::specs::Turning::TurnBegins, crate::specs::Between::TurnFollows, term_stack::specs::Standing::AtState, term_stack::specs::Turning::TurnEnds, crate::specs::Between::GoesOn, term_stack::specs::Standing::left_of))]
 fn turn(
     types: &[u8],
     names: &mut NameTable,
@@ -100,6 +101,7 @@ fn read(types: &[u8], names: &mut NameTable, code: &mut [u8], work: &mut Work) -
 }
 
 // 20 where a text is too long to be read, or the list is not admitted.
+#[tactic(auto, unfolding(definitions::specs::TermText::term_text_limit))]
 fn readable(text: &[u8], types: &[u8]) -> Result<(), Refusal>
     ensures { MatchResult result (λ u. Readable types.now text.now) (NoTerm types.now text.now) }
 {
@@ -120,6 +122,7 @@ fn measure(types: &[u8], names: &mut NameTable, work: &mut Work) -> Result<TermS
 }
 
 // The second pass, which stores the code of the labels, if they have any.
+#[tactic(auto, unfolding(crate::specs::Whole::HasRead))]
 fn store_code(types: &[u8], names: &mut NameTable, code: &mut [u8], work: &mut Work, size: usize)
     requires { HasRead types.now names.old work.old size }
     ensures { Rereads types.now names.old code.old work.old size

@@ -13,12 +13,6 @@ use Rattle.term_reader.proofs.Handed.{answers_20, answers_16, answers_term, refu
 use Rattle.term_reader.proofs.read_term.Goals as goal
 use Rattle.term_reader.proofs.read_term.Goals.{After-at, After-hand_over}
 
-pub new-table-requires : goal.new-table-requires
-new-table-requires c = c.in_ok-readable.ensures.short
-
-pub measure-requires : goal.measure-requires
-measure-requires c = record { listed = c.in_ok-readable.ensures.listed; roomy = c.new-work.ensures }
-
 pub too_short-requires : goal.too_short-requires
 too_short-requires c = counted c.in_ok-size.ensures
 

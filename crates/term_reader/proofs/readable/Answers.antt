@@ -17,7 +17,3 @@ returns-then-text-gt-TEXT_LIMIT c =
       | then-text-gt-TEXT_LIMIT-via-else-text-gt-TEXT_LIMIT+then-not-all_admitted w ↦ unlisted_refused _ _ (sym w.all_admitted.ensures ∙ w.if-not-all_admitted.true)
     ] in
     record { none = none; is = c.at.ensures }
-
-pub returns : goal.returns
-unfolding term_text_limit
-returns c = record { short = c.if-text-gt-TEXT_LIMIT.false; listed = sym c.all_admitted.ensures ∙ c.if-not-all_admitted.false }

@@ -4,10 +4,6 @@ use Rattle.term_reader.specs.Whole.{HasRead, Rereads}
 use Rattle.term_reader.proofs.Passes.{no_labels, read_again}
 use Rattle.term_reader.proofs.store_code.Goals as goal
 
-pub read-requires : goal.read-requires
-unfolding HasRead
-read-requires c = c.requires.holds.begins
-
 pub returns-then-size-gt0 : goal.returns-then-size-gt0
 unfolding Rereads
 returns-then-size-gt0 c t first = read_again first _ _ _ _ _ c.read.ensures

@@ -10,11 +10,5 @@ returns-in_err-readable c =
     let same : c.from_residual.result ≡ Err c.in_err-readable.field-0.0 = search rules in
     rw same (no_size _ _ c.in_err-readable.ensures)
 
-pub new-table-requires : goal.new-table-requires
-new-table-requires c = c.in_ok-readable.ensures.short
-
-pub measure-requires : goal.measure-requires
-measure-requires c = record { listed = c.in_ok-readable.ensures.listed; roomy = c.new-work.ensures }
-
 pub returns : goal.returns
 returns c = rw c.new-table.ensures.0 at (measured_size _ _ _ _ _ c.measure.ensures)

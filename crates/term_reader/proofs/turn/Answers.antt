@@ -7,22 +7,6 @@ use Rattle.term_openings.specs.Beginning.{with_names, NamesBegin, NamesEnd}
 use Rattle.term_reader.specs.Between.{goes_on, TurnFollows, GoesOn}
 use Rattle.term_reader.proofs.turn.Goals as goal
 
-pub start-requires : goal.start-requires
-unfolding TurnBegins TurnFollows AtState
-start-requires c = let (begins, _) = c.requires in record { value = begins.value; holds = rw c.in-Reading.is at begins.holds }
-
-pub returns-in-Reading : goal.returns-in-Reading
-unfolding TurnEnds GoesOn AtState left_of
-returns-in-Reading c before at = rw c.in-Reading.is (c.start.ensures before (rw c.in-Reading.is at at))
-
-pub chain-requires : goal.chain-requires
-unfolding TurnBegins TurnFollows AtState
-chain-requires c = let (begins, _) = c.requires in record { value = begins.value; holds = rw c.in-Holding.is at begins.holds }
-
-pub returns-in-Holding : goal.returns-in-Holding
-unfolding TurnEnds GoesOn AtState left_of
-returns-in-Holding c before at = rw c.in-Holding.is (c.chain.ensures before (rw c.in-Holding.is at at))
-
 pub give-requires : goal.give-requires
 unfolding NamesBegin TurnFollows AtState with_names scene_of goes_on
 give-requires c =
