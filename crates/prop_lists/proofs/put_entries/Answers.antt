@@ -8,9 +8,6 @@ use Rattle.prop_lists.proofs.Writes.{all_left, one_less, none_left}
 use Rattle.prop_lists.proofs.put_entries.Goals as goal
 use Rattle.prop_lists.proofs.put_entries.Goals.{In-Some, in-Some, in_default}
 
-pub code-code-requires : goal.code-code-requires
-code-code-requires g c = c.requires.some_proposition.within
-
 pub known_end-end-requires : goal.known_end-end-requires
 known_end-end-requires g c = present_there c.requires.some_proposition c.code-code.ensures
 
