@@ -13,7 +13,7 @@ use search::lowest;
 
 // Refusals 4 and 6: the lowest pair that starts before the last one's end, ends past so many bytes, or is empty or too long.
 // Each pair is judged by the end of the one before it, which goes along: a test of a place alone would read that pair again.
-#[tactic(auto, unfolding(definitions::specs::Sheet::pair_size))]
+#[tactic(auto, unfolding(definitions::specs::Sheet::pair_size, definitions::specs::Sheet::pair_offset, definitions::specs::Sheet::pair_length, definitions::specs::Sheet::number_at))]
 pub fn first_bad_pair(pairs: &[u8], count: usize, bytes: usize, longest: usize) -> Option<usize>
     requires { pair_size * count ≤ length pairs.now }
     ensures { result ≡ lowest (bad_pair pairs.now bytes longest) count }

@@ -15,13 +15,6 @@ pub loop-i-init : goal.loop-i-init
 unfolding last_end
 loop-i-init c = (at_start _ _, refl)
 
-pub overflow_add-end : goal.overflow_add-end
-unfolding pair_offset pair_length number_at
-overflow_add-end c =
-    let at = c.loop-i.i in
-    let byte = c.type_inv.pairs in
-    omega (arith, byte (pair_size * at), byte (pair_size * at + 1), byte (pair_size * at + 2), byte (pair_size * at + 2 + 1))
-
 pub returns-then-offset-last_end : goal.returns-then-offset-last_end
 unfolding pair_end
 returns-then-offset-last_end c =
