@@ -41,6 +41,7 @@ pub fn fill_ends(code: &[u8], at: usize, names: usize, ends: &mut [u16]) -> usiz
 
 // The same for the propositions of a sheet. Pairs and code stand loose and are no `Marked`: of its fields a proof does not know that they
 // hold bytes, as it does of a parameter, and a clause that says so would ask more of callers.
+#[tactic(auto, unfolding(definitions::specs::Sheet::pair_size))]
 pub fn fill_all_ends(pairs: &[u8], code: &[u8], count: usize, names: usize, ends: &mut [u16])
     requires { AllFillable names pairs.now code.now count ends.old }
     ensures { (i : ℕ) → i < count →

@@ -12,10 +12,6 @@ use Rattle.prop.proofs.fill_all_ends.Goals.{At-loop-i}
 bytes : (c : At-loop-i) → Bytes c.args.code.now
 bytes c k = omega (arith, c.type_inv.code k)
 
-pub pair_offset-requires : goal.pair_offset-requires
-unfolding pair_size
-pair_offset-requires c = omega (arith, c.requires.marks.there)
-
 pub fill_ends-requires : goal.fill_ends-requires
 fill_ends-requires c =
     let s = c.requires in
@@ -29,12 +25,3 @@ loop-i-preserved c =
       c.fill_ends.auto.ends ∙ c.loop-i.invariant.0,
       one_more _ _ _ _ (bytes (goal.at.loop-i-preserved c).At-loop-i) c.requires.marks c.loop-i.i _ _ _ below wrote c.loop-i.invariant.1,
     )
-
-pub loop-i-init : goal.loop-i-init
-loop-i-init c = (refl, λ j h. absurd (omega arith))
-
-pub shape_of-ends : goal.shape_of-ends
-shape_of-ends c = c.loop-i.invariant.0
-
-pub returns : goal.returns
-returns c i h = c.loop-i.invariant.1 i (omega (arith, c.loop-i-test.false))

@@ -22,9 +22,6 @@ ended : (g : _) (c : After-size-i g) → let names = c.args.propositions.now.mem
     → Ends (parameter_coding names) c.code-code.result.now c.loop-left.i (c.loop-left.i + c.size-i.result)
 ended g c there = rw c.size-i.ensures (there.ends c.of_known.result c.of_known.ensures)
 
-pub name-requires : goal.name-requires
-name-requires g c = c.requires.named _ c.requires.below
-
 pub returns-then-count-eq0 : goal.returns-then-count-eq0
 returns-then-count-eq0 g c =
     λ ps rest s. rw (← (bare_atom (name_in _ _) _ _ ps _ _ rest s c.args.name c.if-count-eq0.true), ← c.name.ensures) c.put_all.ensures
