@@ -18,6 +18,7 @@ use steps::{Conclusion, Judgement, step_at};
 
 // Whether the names of two numbers have the same bytes: equal numbers are answered without a look at these, which two vocabularies
 // could not tell.
+#[tactic(auto, unfolding(definitions::specs::Sheet::name_of))]
 fn same_named(sheet: &AdmittedSheet, a: u16, b: u16) -> bool
     requires { (a < names sheet.now) × (b < names sheet.now) }
     ensures { result ≡ eq_name (name_of sheet.now a) (name_of sheet.now b) }

@@ -8,7 +8,3 @@ same_bytes-requires c =
     let sheet = c.marked_names.ensures.accepted.sheet in
     rw (c.marked_names.ensures.pairs, c.marked_names.ensures.text)
     (name_within sheet _ c.requires.0, name_within sheet _ c.requires.1)
-
-pub returns : goal.returns
-unfolding name_of
-returns c = rw (c.marked_names.ensures.pairs, c.marked_names.ensures.text) at c.same_bytes.ensures
