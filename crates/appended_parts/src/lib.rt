@@ -25,7 +25,7 @@ pub struct Appended {
 }
 
 // The pair of one piece more, whose bytes stand after those before it.
-#[tactic(auto, unfolding(definitions::specs::Sheet::text_limit, definitions::specs::Sheet::name_limit))]
+#[tactic(auto, unfolding(definitions::specs::Sheet::text_limit, definitions::specs::Sheet::name_limit, definitions::specs::Sheet::pair_size))]
 fn append_pair(pairs: &mut [u8], from: usize, before: Appended, length: usize) -> Appended
     requires { Addable from before length }
     ensures pair { WrotePair (from + before.«length») length pairs.old (pair_size * before.«count») pairs.new }
