@@ -52,6 +52,7 @@ fn steps_above(host: &SizedSheet, k: usize) -> usize
 // two functions alone, and each clause would say `graft.now.host.now` for `host.now`.
 
 // 28, the levels: the steps above the host step and the donor's levels pass 256.
+#[tactic(auto, unfolding(definitions::specs::Sheet::tree_nesting_limit))]
 fn too_deep(host: &SizedSheet, k: usize, donor: &SizedSheet) -> bool
     requires { k < steps host.now }
     ensures { result ≡ ltb tree_nesting_limit

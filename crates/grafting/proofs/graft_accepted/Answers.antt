@@ -18,9 +18,6 @@ returns-then-not_open-clause-merging c =
 pub too_deep-requires : goal.too_deep-requires
 too_deep-requires c = open_step _ _ (sym (tested (goal.at.too_deep-requires c).After-not_open) ∙ c.if-not_open.false)
 
-pub merge_equal-requires : goal.merge_equal-requires
-merge_equal-requires c = sym c.not_open.ensures ∙ c.if-not_open.false
-
 pub returns-clause-merging : goal.returns-clause-merging
 returns-clause-merging c =
     let host = c.admitted-h.ensures.accepted in

@@ -11,11 +11,3 @@ fill_numbers-requires c = none_numbered _ _ (omega arith)
 pub fill_numbers-requires-2 : goal.fill_numbers-requires-2
 unfolding name_limit
 fill_numbers-requires-2 c = none_numbered _ _ (omega arith)
-
-pub returns : goal.returns
-returns c =
-    record {
-      numbered = rw c.index_names-ours.ensures.is at c.fill_numbers.ensures.numbered;
-      numbered_2 = rw (c.index_names-ours.ensures.is, c.index_names-theirs.ensures.is) at c.fill_numbers-2.ensures.numbered;
-      accepted = (c.index_names-ours.ensures.accepted, c.index_names-theirs.ensures.accepted);
-    }
