@@ -183,6 +183,7 @@ fn put_label<S: Sink<u8>>(sink: &mut S, label: Label, propositions: &Proposition
 }
 
 // The label of a parameter, if it has one, after a colon.
+#[tactic(auto, unfolding(definitions::specs::Term::rename_parameter_label, definitions::specs::Display::display_parameter_label))]
 fn put_parameter_label<S: Sink<u8>>(sink: &mut S, label: Option<Label>, propositions: &Propositions)
     requires { IfSome label (HasLabel propositions.now) }
     ensures { S.puts sink.old (shown_of_parameter propositions.now label) sink.new }
