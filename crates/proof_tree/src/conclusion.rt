@@ -89,6 +89,7 @@ impl StatedConclusion<'_> {
     }
 
     // The label of the parameter of a function that step k makes, with that ending and this conclusion.
+    #[tactic(auto, unfolding(crate::specs::Labelling::parameter_label_of, crate::specs::Table::ending_of))]
     pub fn annotation(&self, ending: Ending, k: usize) -> Result<Option<Label>, Refusal>
         requires { k < 65536 }
         ensures { AnnotationOf (parameter_label_of (ending_of ending) k)

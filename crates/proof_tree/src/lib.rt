@@ -49,6 +49,7 @@ fn wrap_into_type_ascription(
 }
 
 // The ending of a step's term in its mode, as the enum of the table has it: in checking mode no term is labelled.
+#[tactic(auto, unfolding(crate::specs::Table::mode_of, crate::specs::Table::ending_of, crate::specs::Labelling::ending_at))]
 fn ending_in(mode: ReasoningMode, ending: Ending) -> Ending
     ensures { ending_of result ≡ ending_at (mode_of mode) (ending_of ending) }
 {
@@ -122,6 +123,7 @@ fn do_export_as_proof_term(
 }
 
 // The sheet's term: what the last step gives in checking mode.
+#[tactic(auto, unfolding(crate::specs::Table::mode_of))]
 pub fn export_as_proof_term(steps: &WalkedSteps, term_records: &mut [u16]) -> Result<usize, Refusal>
     requires some_step { 0 < steps.now.count }
     requires room_for { RoomFor term_records.old (2 * steps.now.count) }

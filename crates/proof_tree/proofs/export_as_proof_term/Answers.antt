@@ -22,14 +22,6 @@ do_export_as_proof_term-requires c =
       };
     }
 
-pub returns : goal.returns
-unfolding mode_of
-returns c names e =
-    let made = c.do_export_as_proof_term.ensures in
-    let same = made.same_memory in
-    let told = made.changed names e in
-    search rules
-
 pub returns-in_err-do_export_as_proof_term : goal.returns-in_err-do_export_as_proof_term
 unfolding mode_of
 returns-in_err-do_export_as_proof_term c names e =

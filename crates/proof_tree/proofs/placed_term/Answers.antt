@@ -30,20 +30,10 @@ its_label c good =
     let v = visited (goal.at.In_ok-label c).After-step_at-step good in
     label_of (c.in_ok-label.ensures _ _ (means v.good v.bytes (concluded v)))
 
-pub step_at-step-requires : goal.step_at-step-requires
-step_at-step-requires c = (c.args.steps.now.exportable.good _ c.requires.k_in_bounds).whole
-
 pub invariant_of-conclusion : goal.invariant_of-conclusion
 invariant_of-conclusion c =
     let v = visited (goal.at.invariant_of-conclusion c).After-step_at-step (c.args.steps.now.exportable.good _ c.requires.k_in_bounds) in
     record { bytes = v.bytes; stated = stated v.good v.bytes (concluded v) }
-
-pub annotation-requires : goal.annotation-requires
-annotation-requires c = (c.args.steps.now.exportable.good _ c.requires.k_in_bounds).few
-
-pub rule_term-requires : goal.rule_term-requires
-rule_term-requires c =
-    c.requires.parts.0
 
 pub returns-in_default : goal.returns-in_default
 returns-in_default c =

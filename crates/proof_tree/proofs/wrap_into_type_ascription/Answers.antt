@@ -12,9 +12,6 @@ returns-in_default c = record {
   same_length = refl;
 }
 
-pub overflow_cast-ascription : goal.overflow_cast-ascription
-overflow_cast-ascription c = record { fits = omega (arith, c.requires.1.few, c.requires.2) }
-
 pub overflow_cast-ascription-2 : goal.overflow_cast-ascription-2
 overflow_cast-ascription-2 c =
     record { fits = offset_fits c.args.conclusion.now.conclusion (opens c.args.conclusion.now).paired (sym c.proposition_at.ensures ∙ c.in-Some.is) }

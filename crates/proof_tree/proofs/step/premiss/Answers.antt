@@ -48,8 +48,5 @@ offset_bounds-sizes-start c = omega (arith, walk_within c.loop.invariant.0)
 pub bounds-sizes-start : goal.bounds-sizes-start
 bounds-sizes-start c = omega (arith, before (goal.at.bounds-sizes-start c).In-loop, walk_within c.loop.invariant.0)
 
-pub overflow_cast-start : goal.overflow_cast-start
-overflow_cast-start c = omega (arith, c.type_inv.sizes (c.loop.start - 1))
-
 pub returns : goal.returns
 returns c = premiss_step c.loop.invariant.0 (found (goal.at.returns c).Start) _ (omega arith)
