@@ -33,6 +33,7 @@ impl<'a, 't> Model for SheetTerm<'a, 't> {
 impl<'a, 't> SheetTerm<'a, 't> {
     // The sheet of these bytes and its term, or the first of refusals 1 to 15. Where the bytes are refused, what the records hold is left
     // open.
+    #[tactic(auto, unfolding(definitions::specs::Sheet::step_limit))]
     pub fn new(
         s: &'a [u8],
         terms: &'t mut [u16; TERM_NUMBERS],

@@ -52,7 +52,7 @@ pub fn sheet_term<'a>(
 }
 
 // The label count of any bytes.
-#[tactic(auto, unfolding(definitions::specs::Sheet::step_limit))]
+#[tactic(auto, unfolding(definitions::specs::Sheet::step_limit, definitions::specs::Answers::label_count, definitions::specs::Outcome::map_outcome, crate::specs::Counted::counted_of))]
 pub fn label_count(s: &[u8]) -> Result<usize, Refusal>
     ensures { result ≡ counted_of (label_count s.now) }
 {

@@ -12,10 +12,3 @@ use Rattle.sheet_term.proofs.label_count.Goals as goal
 
 pub returns-in_err-held : goal.returns-in_err-held
 returns-in_err-held c = (search rules) ∙ no_count _ c.in_err-held.ensures
-
-pub returns : goal.returns
-unfolding label_count map_outcome counted_of
-returns c =
-    let props = prop_at (names c.args.s.now) (code_bytes c.args.s.now) in
-    let counted = rw (c.terms.ensures, c.record.ensures.is) at (c.annotation_count.ensures props) in
-    rw c.in_ok-held.ensures.term.is_term (ap Ok counted)
