@@ -118,6 +118,7 @@ fn decide(
 }
 
 // 31, 22 and the answer, of the term that is held.
+#[tactic(auto, unfolding(definitions::specs::Sheet::name_limit))]
 fn judge_held(
     sheet: &AdmittedSheet,
     terms: &mut [u16; TERM_NUMBERS],

@@ -12,9 +12,6 @@ use Rattle.judgement.proofs.Asking.{enterable, in_scope, judgeable, rules_say}
 use Rattle.judgement.proofs.decide.Goals as goal
 use Rattle.judgement.proofs.decide.Goals.{After-check, After-pair_offset-at}
 
-pub stand-requires : goal.stand-requires
-stand-requires c = omega (arith, c.requires.lowest.long)
-
 pub assume-requires : goal.assume-requires
 assume-requires c =
     let pairs = c.proposition_pairs-pairs.ensures in

@@ -3,9 +3,6 @@ use borrow.Author.Rules.{rules}
 use Rattle.judgement.proofs.Answers.{no_term, of-the-term}
 use Rattle.judgement.proofs.judge.Goals as goal
 
-pub judge_held-requires : goal.judge_held-requires
-judge_held-requires c = let given = c.in_ok-sheet.ensures in rw given.same given.term
-
 pub returns-in_err-sheet : goal.returns-in_err-sheet
 returns-in_err-sheet c = no_term _ _ _ c.in_err-sheet.ensures (search rules)
 

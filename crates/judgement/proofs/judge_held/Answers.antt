@@ -26,10 +26,6 @@ pub returns-then-not-may_check : goal.returns-then-not-may_check
 returns-then-not-may_check c =
     ap Err c.at-then-not-may_check.ensures ∙ refused-22 (are_known (goal.at.returns-then-not-may_check c).Else-is_outside) c.requires c.may_check.ensures c.if-not-may_check.true
 
-pub number_names-requires : goal.number_names-requires
-unfolding name_limit
-number_names-requires c = search rules
-
 pub slice_bounds-decide-end : goal.slice_bounds-decide-end
 unfolding name_limit
 slice_bounds-decide-end c =
