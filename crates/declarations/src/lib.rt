@@ -67,6 +67,7 @@ pub struct Declarations<'a, const N: usize> {
 
 impl<'a, const N: usize> Declarations<'a, N> {
     // No declarations.
+    #[tactic(auto, unfolding(definitions::specs::NameIndex::slot_count))]
     pub fn new(memory: Memory<'a>) -> Self
         requires { Room memory.bytes.now memory.vocabulary N }
         ensures { Fresh result.table × (result.memory ≡ memory.entry) }
@@ -121,7 +122,7 @@ impl<'a, const N: usize> UseSink for Declarations<'a, N> {
 
     // Adds a use, unless a declaration has its name bytes and count. A use that was noted under the same number is known by its flag,
     // so the search runs once for each number and count. A new declaration is put before the chain of its slot.
-    #[tactic(auto, unfolding(definitions::specs::NameIndex::slot_count), using(crate::proofs::Noting::slot_below))]
+    #[tactic(auto, unfolding(definitions::specs::NameIndex::slot_count, definitions::specs::Code::parameter_limit), using(crate::proofs::Noting::slot_below))]
     fn put_use(&mut self, name: u16, count: usize) {
         let number = usize::from(name);
         let flag = NAME_FLAGS * number + count;
@@ -146,6 +147,7 @@ impl<'a, const N: usize> UseSink for Declarations<'a, N> {
 }
 
 // The count of an atom in brackets, or nothing where it has no parameters.
+#[tactic(auto, unfolding(crate::specs::Lines::count_text))]
 fn put_count<S: Sink<u8>>(sink: &mut S, count: usize)
     ensures { S.puts sink.old (count_text count) sink.new }
 {
@@ -181,6 +183,7 @@ fn put_declaration<S: Sink<u8>>(sink: &mut S, this: Declaration, list: TermList,
 }
 
 // The newline before each line but the first.
+#[tactic(auto, unfolding(crate::specs::Lines::break_before))]
 fn put_line_break<S: Sink<u8>>(sink: &mut S, line: usize)
     ensures { S.puts sink.old (break_before line) sink.new }
 {

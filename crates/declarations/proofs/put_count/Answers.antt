@@ -3,10 +3,6 @@ use borrow.Author.Tests.{ne_eqb}
 use Rattle.declarations.specs.Lines.{count_text}
 use Rattle.declarations.proofs.put_count.Goals as goal
 
-pub returns-then-count-eq0 : goal.returns-then-count-eq0
-unfolding count_text
-returns-then-count-eq0 g c = rw c.if-count-eq0.true (g.met.S.Sink.laws.none _)
-
 pub returns : goal.returns
 unfolding count_text
 returns g c =

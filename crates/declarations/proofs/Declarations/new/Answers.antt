@@ -7,7 +7,3 @@ use Rattle.declarations.proofs.Declarations.new.Goals as goal
 pub invariant_of-result : goal.invariant_of-result
 unfolding slot_count
 invariant_of-result g c = record { held = fresh_held (record { none = refl; unseen = refl; unchained = refl }) c.requires }
-
-pub returns : goal.returns
-unfolding slot_count
-returns g c = (record { none = refl; unseen = refl; unchained = refl }, refl)

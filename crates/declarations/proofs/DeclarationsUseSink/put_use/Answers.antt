@@ -46,10 +46,6 @@ returns-then-known g c = record {
   notes = rw (← c.from-number.ensures) (noted_known c.args.self.now.held (rw c.from-number.ensures c.requires.known) c.requires.few (search rules) c.if-self-flag.false (sym c.is_declared-known.ensures ∙ c.if-known.true));
 }
 
-pub overflow_cast-self : goal.overflow_cast-self
-unfolding parameter_limit
-overflow_cast-self g c = omega (arith, c.requires.few)
-
 pub bounds-self-len : goal.bounds-self-len
 bounds-self-len g c = room g (goal.at.bounds-self-len g c).Else-self-flag
 
