@@ -2,9 +2,6 @@
 use Rattle.text.proofs.Arranging.{unsorted, sorted}
 use Rattle.text.proofs.arrange.Goals as goal
 
-pub sort_declarations-requires : goal.sort_declarations-requires
-sort_declarations-requires c = rw (c.memory.ensures.bytes, c.memory.ensures.vocabulary) c.requires
-
 pub returns-in-Third : goal.returns-in-Third
 returns-in-Third c = rw c.in-Third.is (sorted (rw (c.memory.ensures.bytes, c.memory.ensures.vocabulary) at c.sort_declarations.ensures))
 

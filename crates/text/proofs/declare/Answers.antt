@@ -41,9 +41,6 @@ put_entries-requires c =
       known = λ name below. rw (c.put_term_uses.ensures.same_memory, c.new-noted.ensures.1) below;
     }
 
-pub returns-clause-few : goal.returns-clause-few
-returns-clause-few c = omega (arith, c.declared-all.ensures.1, c.put_entries.new.sink.held.within)
-
 pub returns-clause-declares : goal.returns-clause-declares
 returns-clause-declares c =
     let m = c.memory-memory.ensures in

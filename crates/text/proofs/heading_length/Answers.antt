@@ -9,12 +9,6 @@ lines_length-requires c = (rw c.memory-memory.ensures.bytes (printable c.memory-
 pub lines_length-requires-2 : goal.lines_length-requires-2
 lines_length-requires-2 c = (rw c.memory-memory.ensures.bytes (printable c.memory-memory.ensures.vocabulary c.requires.declares_2), c.requires.few.1)
 
-pub overflow_add-result : goal.overflow_add-result
-overflow_add-result c = omega (arith, c.lines_length.ensures.small, c.lines_length-2.ensures.small)
-
-pub overflow_add-result-2 : goal.overflow_add-result-2
-overflow_add-result-2 c = omega (arith, c.lines_length.ensures.small, c.lines_length-2.ensures.small)
-
 pub returns : goal.returns
 returns c =
     heading_measured c.memory-memory.ensures.vocabulary c.args.version c.lists-upper.ensures.0 c.lists-upper.ensures.1

@@ -5,12 +5,6 @@ use Rattle.text.specs.Declaring.{sheet_vocabulary}
 use Rattle.text.proofs.Heading.{heading_put}
 use Rattle.text.proofs.put_heading.Goals as goal
 
-pub put_declarations-requires : goal.put_declarations-requires
-put_declarations-requires g c = rw (c.memory-memory.ensures.bytes, c.memory-memory.ensures.vocabulary) c.requires.first
-
-pub put_declarations-requires-2 : goal.put_declarations-requires-2
-put_declarations-requires-2 g c = rw (c.memory-memory.ensures.bytes, c.memory-memory.ensures.vocabulary) c.requires.second
-
 pub returns : goal.returns
 returns g c =
     let given = c.args in
