@@ -23,6 +23,7 @@ fn names_step(refusal: Refusal) -> bool
 }
 
 // The column of a step, if there is such a step.
+#[tactic(auto, unfolding(steps::specs::StepAt::step_at))]
 fn column_at(s: &[u8], k: usize) -> Option<u16>
     requires { HasHeader s.now (header_of s.now) }
     ensures { unwrap_or result 0 ≡ column (step_records s.now) k }
@@ -53,6 +54,7 @@ pub fn locate(s: &[u8], refusal: Refusal) -> Located
 }
 
 // ` column K` for a refusal that names a step.
+#[tactic(auto, unfolding(definitions::specs::Answers::column_words))]
 fn put_column<S: Sink<u8>>(sink: &mut S, located: Located)
     ensures { S.puts sink.old (column_words located) sink.new }
 {

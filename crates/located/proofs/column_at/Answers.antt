@@ -24,7 +24,3 @@ invariant_of-sheet c =
 pub step_at-step-requires : goal.step_at-step-requires
 step_at-step-requires c =
     rw c.step_records.ensures (has_step c.requires (is_header (goal.at.step_at-step-requires c).In_ok-h) _ c.if-h-k.false)
-
-pub returns : goal.returns
-unfolding step_at
-returns c = rw (← c.step_records.ensures, c.step_at-step.ensures)

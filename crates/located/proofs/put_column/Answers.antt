@@ -7,7 +7,3 @@ pub returns-then-names_step : goal.returns-then-names_step
 unfolding column_words
 returns-then-names_step g c =
     rw (sym c.names_step.ensures ∙ c.if-names_step.true) (g.met.S.Sink.laws.then c.put_all.ensures c.put_decimal.ensures)
-
-pub returns-else-names_step : goal.returns-else-names_step
-unfolding column_words
-returns-else-names_step g c = rw (sym c.names_step.ensures ∙ c.if-names_step.false) (g.met.S.Sink.laws.none _)
