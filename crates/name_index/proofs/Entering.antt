@@ -1,11 +1,10 @@
 -- A name enters the index of the names before it.
-use Rattle.std.proofs.Common.{◌≡◌, ℕ, ◌+◌, ◌<◌, ◌≤◌, List, length, set, replicate, sym, refl, add-one, arith}
+use Rattle.std.proofs.Common.{◌≡◌, ℕ, ◌+◌, ◌<◌, List, set, replicate, sym, refl, add-one, arith}
 use Rattle.std.specs.Prelude.{Option, None, Some, Ok, Err}
 use Rattle.definitions.specs.Name.{Name}
 use Rattle.definitions.specs.Sheet.{name_limit}
 use Rattle.definitions.specs.Admission.{is_none}
 use Rattle.definitions.specs.NameIndex.{slot_count, free, start_slot, plain_search, find, enter, index}
-use Rattle.name_index_laws.proofs.Entering.{indexed}
 use Rattle.name_index_laws.proofs.Agreement.{index_agrees}
 use Rattle.name_index.specs.Probed.{held_or, probed}
 use Rattle.name_index.proofs.Probing.{free_slot_below}
@@ -35,10 +34,6 @@ module _ (name : ℕ → Name) (slots : List ℕ) (x : Name) where
   absent_below e = rw (absent _ _ _ e).1 at (free_slot_below slots slot_count (start_slot x))
 
 module _ (name : ℕ → Name) (n : ℕ) {slots : List ℕ} (is : slots ≡ index name n) where
-  pub index_size : n ≤ name_limit → length slots ≡ slot_count
-  unfolding name_limit slot_count
-  index_size l = rw is (indexed name n (omega arith)).size
-
   finds : n < name_limit → plain_search name n (name n) ≡ find name slots (name n)
   unfolding name_limit slot_count
   finds l = rw is (sym (index_agrees name n (name n) (omega arith)))
@@ -60,10 +55,7 @@ module _ (name : ℕ → Name) (n : ℕ) {slots : List ℕ} (is : slots ≡ inde
       let (none_held, place) = absent _ _ _ (rw own at e) in
       rw (finds l, none_held, place) at enters
 
--- before the first name, and after the last
+-- before the first name
 pub none_entered : (name : ℕ → Name) {slots : List ℕ} → slots ≡ replicate slot_count free → slots ≡ index name 0
 unfolding index
 none_entered name e = e
-
-pub all_entered : (name : ℕ → Name) (n i : ℕ) {slots : List ℕ} → slots ≡ index name i → i ≤ n → n ≤ i → slots ≡ index name n
-all_entered name n i e l h = let all : i ≡ n = omega arith in rw all at e

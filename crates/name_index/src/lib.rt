@@ -1,7 +1,7 @@
 // The index of names: 1,024 slots, a name's number behind the taken slots from its start slot on, round the end.
 #![tactic(auto)]
 
-ghost use Rattle.std.specs.Prelude.{◌≡◌, ℕ, Bool, ◌+◌, ◌*◌, ◌%◌, ◌<◌, ◌≤◌, length, take, drop};
+ghost use Rattle.std.specs.Prelude.{◌≡◌, ℕ, Bool, ◌+◌, ◌*◌, ◌%◌, ◌<◌, ◌≤◌, take, drop};
 ghost use Rattle.definitions.specs.Name.{Name, eq_name};
 ghost use Rattle.definitions.specs.Sheet.{name_limit};
 ghost use Rattle.definitions.specs.NameIndex as names;
@@ -49,12 +49,13 @@ fn cut(bytes: &[u8], start: usize, count: usize) -> &[u8]
 }
 
 // The name of a number, whatever its pair says: cut at the end of the text, and empty where there is no pair.
+#[tactic(auto, using(crate::proofs::AnyName::no_name, crate::proofs::AnyName::pair_there, crate::proofs::AnyName::name_cut))]
 pub fn any_name<'m>(memory: &Memory<'m>, i: usize) -> &'m [u8]
     requires { LiesWithin memory.now }
     ensures { result.now ≡ name_of memory.now i }
 {
     if memory.vocabulary.name_count <= i {
-        return cut(memory.bytes, 0, 0);
+        return &memory.bytes[..0];
     }
     let pairs = memory.pairs();
     cut(memory.text(), pair_offset(pairs, i), pair_length(pairs, i))
@@ -64,21 +65,19 @@ pub fn any_name<'m>(memory: &Memory<'m>, i: usize) -> &'m [u8]
 #[derive(Clone, Copy)]
 pub struct Index<'a> {
     pub memory: Memory<'a>,
-    pub slots: &'a [u16],
+    pub slots: &'a [u16; SLOT_COUNT],
     pub ghost within: { LiesWithin memory },
-    pub ghost whole: { length slots.now ≡ slot_count },
 }
 
 // The number of a name's equal, or the slot that the name would enter. Slots that hold others' numbers are stepped over from its start
 // slot on, round the end. A closure says whether the name of a number that a slot holds is the equal.
 #[tactic(auto, unfolding(definitions::specs::NameIndex::start_slot, definitions::specs::NameIndex::slot_count))]
 pub fn probe_by<F: Fn(usize) -> bool>(
-    slots: &[u16],
+    slots: &[u16; SLOT_COUNT],
     name: &[u8],
     is_equal: F,
 ) -> Result<usize, usize>
-    requires slots_len { length slots.now ≡ slot_count }
-    requires asks { (at : ℕ) → at < slot_count → Taken slots.now at → F.pre is_equal (slot_at slots.now at) }
+    requires { (at : ℕ) → at < slot_count → Taken slots.now at → F.pre is_equal (slot_at slots.now at) }
     ensures { (named : ℕ → Name) →
         ((number : ℕ) (r : Bool) → F.post is_equal number r → r ≡ eq_name (named number) name.now) →
         result ≡ probed named slots.now name.now }
@@ -122,8 +121,8 @@ impl Index<'_> {
 }
 
 // Name i enters the index of the names before it, if it does not repeat one of them.
-#[tactic(auto, unfolding(definitions::specs::Sheet::name_limit))]
-pub fn enter(slots: &mut [u16], memory: &Memory, i: usize)
+#[tactic(auto, unfolding(definitions::specs::Sheet::name_limit, definitions::specs::NameIndex::slot_count), using(crate::proofs::Entering::repeated, crate::proofs::Entering::entered, crate::proofs::Entering::absent_below))]
+pub fn enter(slots: &mut [u16; SLOT_COUNT], memory: &Memory, i: usize)
     requires i_lt_name_limit { (i < name_limit) × LiesWithin memory.now }
     requires slots_value { slots.old ≡ index (name_of memory.now) i }
     ensures { slots.new ≡ index (name_of memory.now) (i + 1) }
@@ -138,9 +137,9 @@ pub fn enter(slots: &mut [u16], memory: &Memory, i: usize)
     slots[at] = i as u16;
 }
 
-// The index of a memory's names, in slots that the caller lends, as C callers do. A name's number is the loop's own count.
-pub fn build(slots: &mut [u16], memory: &Memory)
-    requires slots_len { (length slots.old ≡ slot_count) × LiesWithin memory.now }
+// The index of a memory's names, in slots that the caller lends. A name's number is the loop's own count.
+pub fn build(slots: &mut [u16; SLOT_COUNT], memory: &Memory)
+    requires within { LiesWithin memory.now }
     requires name_count_bound { memory.now.vocabulary.name_count ≤ name_limit }
     ensures { slots.new ≡ index (name_of memory.now) memory.now.vocabulary.name_count }
 {
