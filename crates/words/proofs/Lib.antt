@@ -7,3 +7,4 @@ pub mod Numbers
 pub mod NewName
 pub mod Added
 pub mod Rows
+pub mod Spelled

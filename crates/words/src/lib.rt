@@ -5,7 +5,9 @@
 #![tactic(auto)]
 
 ghost use Rattle.std.specs.Prelude.{◌≡◌, ◌≤◌, length, drop, None, MatchOption};
-ghost use Rattle.definitions.specs.TermText.{is_admitted, all_admitted};
+ghost use Rattle.definitions.specs.Name.{eq_name};
+ghost use Rattle.definitions.specs.Text.{occurs};
+ghost use Rattle.definitions.specs.TermText.{keywords, is_admitted, all_admitted};
 ghost use Rattle.definitions.specs.CallerNames.{names_in};
 ghost use Rattle.definitions.specs.TermReader.{name, expect, start_of, argument_follows};
 ghost use Rattle.words.specs.Places.{WordEnds, NameEnds, Expected};
@@ -14,7 +16,7 @@ ghost use Rattle.words.specs.Starts.{as_start};
 mod name_table;
 
 use caller_names::{names_in, well_formed};
-use identifier::{Class, same_name};
+use identifier::Class;
 pub use name_table::NameTable;
 
 // Where the name bytes from `at` on end.
@@ -31,17 +33,23 @@ pub fn word_end(text: &[u8], at: usize) -> usize
     at + length
 }
 
-// The words that are no names of a term.
-static KEYWORDS: [&[u8]; 11] = [
-    b"fn", b"case", b"of", b"inl", b"inr", b"let", b"in", b"fst", b"snd", b"abort", b"sorry",
-];
+// Whether these bytes are one of the words that are no names of a term.
+#[tactic(auto, unfolding(definitions::specs::TermText::keywords, definitions::specs::Text::occurs), using(crate::proofs::Spelled::by_bytes))]
+fn is_keyword(word: &[u8]) -> bool
+    ensures { result ≡ occurs eq_name word.now keywords }
+{
+    matches!(
+        word,
+        b"fn" | b"case" | b"of" | b"inl" | b"inr" | b"let" | b"in" | b"fst" | b"snd" | b"abort" | b"sorry"
+    )
+}
 
 // Whether these bytes are a name of a term: one of document 01's that is no keyword.
 #[tactic(auto, unfolding(definitions::specs::TermText::is_admitted))]
 pub fn is_admitted(name: &[u8]) -> bool
     ensures { result ≡ is_admitted name.now }
 {
-    well_formed(name) && !KEYWORDS.iter().any(|keyword| same_name(name, keyword))
+    well_formed(name) && !is_keyword(name)
 }
 
 // Whether each name of a list is admitted.
@@ -95,28 +103,23 @@ pub enum Start {
     Other,
 }
 
-// The words that begin a term otherwise than a name does.
-static STARTS: [(&[u8], Start); 9] = [
-    (b"fn", Start::Function),
-    (b"case", Start::Case),
-    (b"let", Start::Let),
-    (b"fst", Start::Call(NamedFunction::Fst)),
-    (b"snd", Start::Call(NamedFunction::Snd)),
-    (b"inl", Start::Call(NamedFunction::Inl)),
-    (b"inr", Start::Call(NamedFunction::Inr)),
-    (b"abort", Start::Call(NamedFunction::Abort)),
-    (b"sorry", Start::Sorry),
-];
-
 // The start of a term whose first word these bytes are.
+#[tactic(auto, unfolding(definitions::specs::TermReader::start_of, crate::specs::Starts::as_start, crate::specs::Starts::as_named), using(crate::proofs::Spelled::by_bytes))]
 pub fn start_of(word: &[u8]) -> Start
     ensures { result ≡ as_start (start_of word.now) }
 {
-    STARTS
-        .iter()
-        .find(|row| same_name(word, row.0))
-        .map(|row| row.1)
-        .unwrap_or(Start::Other)
+    match word {
+        b"fn" => Start::Function,
+        b"case" => Start::Case,
+        b"let" => Start::Let,
+        b"fst" => Start::Call(NamedFunction::Fst),
+        b"snd" => Start::Call(NamedFunction::Snd),
+        b"inl" => Start::Call(NamedFunction::Inl),
+        b"inr" => Start::Call(NamedFunction::Inr),
+        b"abort" => Start::Call(NamedFunction::Abort),
+        b"sorry" => Start::Sorry,
+        _ => Start::Other,
+    }
 }
 
 // Whether an argument follows at `at`: a blank, and then a name, `sorry` or a bracket.
@@ -132,7 +135,7 @@ pub fn argument_follows(text: &[u8], at: usize) -> bool
     if is_admitted(word) {
         return true;
     }
-    if same_name(word, b"sorry") {
+    if let Start::Sorry = start_of(word) {
         return true;
     }
     expect(text, start, b"(").is_some()
