@@ -14,7 +14,6 @@ use Rattle.definitions.specs.Term.{ProofTerm, Ident, Unit, Sorry, annotation_cou
 use Rattle.definitions.specs.TermText.{term_nesting}
 use Rattle.definitions.specs.TermReader.{standing, word, name, expect, if_read, start_of, is_sorry}
 use Rattle.definitions.specs.TermMemory.{seven}
-use Rattle.definitions.proofs.Names.{eq_name_true}
 use Rattle.reading_laws.specs.TermMachine as machine
 use Rattle.reading_laws.specs.TermMachine.{Entry, in_bracket, State, reading, and_then, used, closed_for}
 use Rattle.reading_laws.specs.Marks.{Mark, called, node, marks, purpose_marks, entry_marks, entries_marks, names_met}
@@ -24,7 +23,9 @@ use Rattle.words.specs.Places.{between, WordEnds, NameEnds, Expected}
 use Rattle.words.specs.Names.{add_name, added, number_in, NamePlace}
 use Rattle.words.specs.Table.{table_names, TooMany, NumberOf}
 use Rattle.words.proofs.Added.{met_added}
-use Rattle.words.proofs.Words.{between_length, sorry_word_lem, other_word}
+use Rattle.words.proofs.Words.{between_length, sorry_start, other_start}
+use Rattle.words.specs.Starts.{as_start}
+use Rattle.words.specs.declared.Start.TheVariants as start
 use Rattle.atom_reader.proofs.Scopes.{added_one_meets}
 use Rattle.atom_reader.proofs.Atoms.{number_later}
 use Rattle.term_stack.specs.declared.Work.{Work}
@@ -65,17 +66,20 @@ ends_behind z work s behind r t less within deep = ends_within z work _ _ r t (o
 
 -- whether the word is sorry
 module _ {text : List ℕ} {at end : ℕ} (ends : WordEnds text at end) where
-  pub is_sorry_lem : eq_name (between at end text) (utf8 "sorry") ≡ true → is_sorry (start_of (word (drop at text)).value) ≡ true
-  is_sorry_lem e = rw ends.is (sorry_word_lem (between at end text) e)
+  pub is_sorry_lem : start.Sorry ≡ as_start (start_of (between at end text)) → is_sorry (start_of (word (drop at text)).value) ≡ true
+  is_sorry_lem e = rw ends.is (sorry_start _ (sym e))
 
-  pub sorry_long : eq_name (between at end text) (utf8 "sorry") ≡ true → at < end
-  sorry_long e =
-      let five : length (between at end text) ≡ 5 = ap length (eq_name_true {x = between at end text} {y = utf8 "sorry"} e) in
-      let long = between_length text at end ends.from ends.within in
-      omega (arith, five, long)
+  -- no bytes are no word
+  sorry_some : (w : Name) → start.Sorry ≡ as_start (start_of w) → 0 < length w
+  unfolding as_start start_of eq_name
+  sorry_some [] e = cc
+  sorry_some (b ∷ w) e = omega arith
 
-  pub wordless : name (drop at text) ≡ None → eq_name (between at end text) (utf8 "sorry") ≡ false → Wordless text at
-  wordless no_name e = record { no_name = no_name; no_sorry = rw ends.is (other_word (between at end text) e) }
+  pub sorry_long : start.Sorry ≡ as_start (start_of (between at end text)) → at < end
+  sorry_long e = omega (arith, sorry_some _ e, between_length text at end ends.from ends.within)
+
+  pub wordless : name (drop at text) ≡ None → (as_start (start_of (between at end text)) ≡ start.Sorry → ⊥) → Wordless text at
+  wordless no_name e = record { no_name = no_name; no_sorry = rw ends.is (other_start _ e) }
 
 -- what the machine does behind a bracket that opens
 unfoldable opening : List Entry → machine.Purpose → Prim.Unit {0} → List ℕ → Option State

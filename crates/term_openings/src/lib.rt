@@ -64,7 +64,7 @@ pub fn closed_for(names: &mut NameTable, work: &mut Work, s: Progress, p: Purpos
         return name_for(names, work, s, end, p);
     }
     let end = word_end(text, s.at);
-    if &text[s.at..end] == b"sorry".as_slice() {
+    if let Start::Sorry = start_of(&text[s.at..end]) {
         let behind = Progress { at: end, ..s };
         return use_leaf(work, behind, Node::Sorry, p);
     }

@@ -15,9 +15,9 @@ use Rattle.name_index.specs.Probed.{probed}
 use Rattle.name_index.proofs.Entering.{entered}
 use Rattle.words.specs.declared.name_table.NameTable.{NameTable}
 use Rattle.words.specs.Places.{between}
-use Rattle.words.specs.Names.{add_name, added, number_in, first_names, Table, NamePlace, PairFits, with_number, with_pair}
+use Rattle.words.specs.Names.{add_name, added, number_in, first_names, Table, NamePlace, PairFits, with_pair}
 use Rattle.words.specs.Table.{table_names, searched, NumberOf}
-use Rattle.words.proofs.Stored.{stored_length, stored_kept, stored_number, other_number}
+use Rattle.words.proofs.Stored.{stored_length, stored_kept, stored_first, stored_second}
 use Rattle.words.proofs.Indexing.{few_names, same_probed}
 use Rattle.words.proofs.Numbers.{names_length, end_kept, marked_kept, names_kept, unmet_name}
 
@@ -40,7 +40,7 @@ module _ {text pairs slots : List ℕ} {count at end : ℕ} (table : Table text 
 
   pub paired_length : length paired ≡ pair_size * name_limit
   unfolding with_pair
-  paired_length = stored_length _ _ _ ∙ (stored_length _ _ _ ∙ table.room)
+  paired_length = stored_length _ _ _ _ ∙ table.room
 
   room_left : 4 * count + 3 < length pairs
   unfolding pair_size name_limit
@@ -48,20 +48,15 @@ module _ {text pairs slots : List ℕ} {count at end : ℕ} (table : Table text 
 
   paired_kept : take (pair_size * count) paired ≡ take (pair_size * count) pairs
   unfolding with_pair
-  paired_kept =
-      let offset = with_number pairs (pair_size * count) at in
-      stored_kept offset (pair_size * count + 2) (end - at) (pair_size * count) (omega arith)
-      ∙ stored_kept pairs (pair_size * count) at (pair_size * count) (omega arith)
+  paired_kept = stored_kept pairs (pair_size * count) at (end - at) (pair_size * count) (omega arith)
 
   new_offset : pair_offset paired count ≡ at
   unfolding pair_offset with_pair pair_size
-  new_offset =
-      other_number _ _ _ (4 * count) (λ h. omega arith)
-      ∙ stored_number pairs (4 * count) at (omega (arith, room_left))
+  new_offset = stored_first pairs (4 * count) at (end - at) room_left
 
   new_length : pair_length paired count ≡ end - at
   unfolding pair_length with_pair pair_size
-  new_length = stored_number _ _ _ (omega (arith, room_left, stored_length pairs (4 * count) at))
+  new_length = stored_second pairs (4 * count) at (end - at) room_left
 
   new_end : pair_end paired count ≤ length text
   unfolding pair_end

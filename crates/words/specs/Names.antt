@@ -2,7 +2,7 @@
 use Rattle.std.specs.Prelude.{ℕ, zero, suc, ◌+◌, ◌-◌, ◌*◌, ◌<◌, ◌≤◌, ◌≡◌, cond, List, [], ◌∷◌, length}
 use Rattle.definitions.specs.Name.{Name, eq_name}
 use Rattle.definitions.specs.Sheet.{name_limit, name_length_limit, pair_size, pair_end, marked}
-use Rattle.definitions.specs.Code.{u16}
+use Rattle.output.specs.Numbers.{u16s}
 use Rattle.definitions.specs.NameIndex.{index}
 use Rattle.definitions.specs.Text.{occurs}
 use Rattle.definitions.specs.TermText.{term_text_limit}
@@ -41,13 +41,9 @@ pub record PairFits (pairs : List ℕ) (count at end : ℕ) : Type 0 where
   pub few : end ≤ at + name_length_limit
   pub near : end ≤ term_text_limit
 
--- a number stored at an offset, low byte first
-unfoldable pub with_number : List ℕ → ℕ → ℕ → List ℕ
-with_number memory at n = sets memory at (u16 n)
-
 -- the pair of a name stored as number `count`: offset and length
 unfoldable pub with_pair : List ℕ → ℕ → ℕ → ℕ → List ℕ
-with_pair pairs count at end = with_number (with_number pairs (pair_size * count) at) (pair_size * count + 2) (end - at)
+with_pair pairs count at end = sets pairs (pair_size * count) (u16s (at ∷ (end - at) ∷ []))
 
 -- a text is short enough to be read, each name lies in it, and the slots are the index of the names
 pub record Table (text pairs slots : List ℕ) (count : ℕ) : Type 0 where

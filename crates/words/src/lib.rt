@@ -40,7 +40,17 @@ fn is_keyword(word: &[u8]) -> bool
 {
     matches!(
         word,
-        b"fn" | b"case" | b"of" | b"inl" | b"inr" | b"let" | b"in" | b"fst" | b"snd" | b"abort" | b"sorry"
+        b"fn"
+            | b"case"
+            | b"of"
+            | b"inl"
+            | b"inr"
+            | b"let"
+            | b"in"
+            | b"fst"
+            | b"snd"
+            | b"abort"
+            | b"sorry"
     )
 }
 

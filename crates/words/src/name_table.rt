@@ -9,12 +9,13 @@ ghost use Rattle.words.specs.Names.{Table, NamePlace, PairFits, with_pair};
 use identifier::same_name;
 use name_index::{FREE, SLOT_COUNT, probe_by};
 use number::{Marked, PAIR_SIZE};
-use output::store_u16;
+use output::Writer;
+use output::sink::put_u16s;
 use vocabulary::NAME_LIMIT;
 
 // A text and the names met in it, in the order in which they were met: their pairs, which mark them there, and slots that are their
 // index. The slots hold numbers and `FREE`, and no Options: the laws of the index are over lists of numbers, which slots that C lends
-// are too.
+// are too. The pairs have memory of fixed size, which no pair is pushed to, and `count` says how many are stored.
 #[derive(Drop)]
 pub struct NameTable<'t> {
     pub text: &'t [u8],
@@ -25,14 +26,14 @@ pub struct NameTable<'t> {
 }
 
 // Stores the pair of a name that stands from `at` to `end` as number `count`.
-#[tactic(auto, unfolding(crate::specs::Names::with_number, definitions::specs::Sheet::pair_size, definitions::specs::TermText::term_text_limit, definitions::specs::Sheet::name_length_limit, crate::specs::Names::with_pair))]
+#[tactic(auto, unfolding(definitions::specs::Sheet::pair_size, definitions::specs::TermText::term_text_limit, definitions::specs::Sheet::name_length_limit, crate::specs::Names::with_pair))]
 fn put_pair(pairs: &mut [u8], count: u16, at: usize, end: usize)
     requires { PairFits pairs.old count at end }
     ensures { pairs.new ≡ with_pair pairs.old count at end }
 {
-    let offset = PAIR_SIZE * usize::from(count);
-    store_u16(pairs, offset, at as u16);
-    store_u16(pairs, offset + 2, (end - at) as u16);
+    let to = PAIR_SIZE * usize::from(count);
+    let pair = [at as u16, (end - at) as u16];
+    put_u16s(&mut Writer { out: pairs, to }, &pair);
 }
 
 impl<'t> NameTable<'t> {

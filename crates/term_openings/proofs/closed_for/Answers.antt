@@ -1,6 +1,5 @@
 -- A name, sorry, or a bracket.
 use mathlib.Core.Path.{refl, sym, ◌∙◌}
-use Rattle.identifier.proofs.Comparing.{eq_name_is}
 use Rattle.words.specs.Places.{between}
 use Rattle.term_openings.specs.Beginning.{with_text, with_names, TextBegins, TextEnds, NamesBegin, NamesEnd}
 use Rattle.term_openings.proofs.ClosedTerms.{ends_behind, is_sorry_lem, sorry_leaf, sorry_long, wordless}
@@ -10,14 +9,14 @@ pub use_leaf-requires : goal.use_leaf-requires
 unfolding NamesBegin with_names between
 use_leaf-requires c =
     let ends = c.word_end-end.ensures in
-    let is = eq_name_is _ _ ∙ (sym (rw c.as_slice.ensures at c.eq.ensures) ∙ c.if-eq.true) in
+    let is = sym c.in-Sorry.is ∙ c.start_of.ensures in
     record { value = _; holds = sorry_leaf c.requires.holds c.in_default.ensures (is_sorry_lem ends is) ends }
 
-pub returns-then-eq : goal.returns-then-eq
+pub returns-in-Sorry : goal.returns-in-Sorry
 unfolding NamesEnd with_names between
-returns-then-eq c z closed =
+returns-in-Sorry c z closed =
     let ends = c.word_end-end.ensures in
-    let is = eq_name_is _ _ ∙ (sym (rw c.as_slice.ensures at c.eq.ensures) ∙ c.if-eq.true) in
+    let is = sym c.in-Sorry.is ∙ c.start_of.ensures in
     ends_behind _ _ _ _ _ (c.use_leaf.ensures _ (sorry_leaf closed c.in_default.ensures (is_sorry_lem ends is) ends))
     (sorry_long ends is) ends.within refl
 
@@ -27,8 +26,7 @@ open_for-requires c =
     let pre = c.requires in
     let given = c.args in (
       record { value = with_names pre.value given.names.now.text.now given.names.now; holds = pre.holds },
-      wordless c.word_end-end.ensures c.in_default.ensures
-          (eq_name_is _ _ ∙ (sym (rw c.as_slice.ensures at c.eq.ensures) ∙ c.if-eq.false)),
+      wordless c.word_end-end.ensures c.in_default.ensures (λ e. c.in_default-start_of.not-Sorry (c.start_of.ensures ∙ e)),
     )
 
 pub returns : goal.returns

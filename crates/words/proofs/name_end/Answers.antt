@@ -1,6 +1,5 @@
 -- A word that is admitted is a name.
 use mathlib.Core.Path.{sym, ◌∙◌}
-use native.Mathlib.Omega.{arith}
 use Rattle.words.specs.Places.{between}
 use Rattle.words.proofs.Words.{name_ends, name_fails}
 use Rattle.words.proofs.name_end.Goals as goal
