@@ -2,7 +2,6 @@
 use mathlib.Core.Path.{ap}
 use lib.ListN.{length, drop}
 use Rattle.std.proofs.Common.{rules}
-use Rattle.definitions.specs.NameIndex.{slot_count}
 use Rattle.sheet.proofs.Admitted.{with_header}
 use Rattle.restating.proofs.Answers.{told}
 use Rattle.grafting.proofs.Answers.{within_both, few_names, built, stays-refused, Stands, stands, in_range, vocabulary-is, indexed}
@@ -24,12 +23,11 @@ pub vocabulary-requires : goal.vocabulary-requires
 vocabulary-requires c = in_range _ _ _ _ _ (sheet_here (goal.at.vocabulary-requires c).In_ok-m)
 
 pub build-requires : goal.build-requires
-unfolding slot_count
 build-requires c =
     let o = sheet_here (goal.at.build-requires c).In_ok-m in
     let is = vocabulary-is _ _ _ _ _ o c.vocabulary.ensures in
     let rest = drop (length o.sheet) c.args.out.now in
-    record { slots_len = (search rules, within_both o.has rest is o.memory); name_count_bound = few_names o.has rest is }
+    record { within = within_both o.has rest is o.memory; name_count_bound = few_names o.has rest is }
 
 pub layout-requires : goal.layout-requires
 layout-requires c = in_range _ _ _ _ _ (sheet_here (goal.at.layout-requires c).In_ok-m)

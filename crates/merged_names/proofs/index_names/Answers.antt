@@ -1,6 +1,4 @@
 -- The vocabulary of a sheet says where its names lie, and the slots are built over them.
-use Rattle.std.proofs.Common.{rules}
-use Rattle.definitions.specs.NameIndex.{slot_count}
 use Rattle.sheet.proofs.Admitted.{AcceptedSheet, with_header}
 use Rattle.sheet.proofs.Indexing.{vocabulary-within, few_names, built}
 use Rattle.sheet.specs.Header.{header_of}
@@ -13,17 +11,15 @@ here : (c : After-memory-memory) → AcceptedSheet c.memory-memory.result.bytes.
 here c = rw c.memory-memory.ensures.bytes (with_header c.memory-memory.ensures.accepted)
 
 pub build-requires : goal.build-requires
-unfolding slot_count
 build-requires c =
     let sheet = here (goal.at.build-requires c).After-memory-memory in
     let v = c.memory-memory.ensures.vocabulary in
-    record { slots_len = (search rules, vocabulary-within sheet v); name_count_bound = few_names sheet v }
+    record { within = vocabulary-within sheet v; name_count_bound = few_names sheet v }
 
 pub invariant_of-result : goal.invariant_of-result
-unfolding slot_count
 invariant_of-result c =
     let sheet = here (goal.at.invariant_of-result c).After-memory-memory in
-    record { within = vocabulary-within sheet c.memory-memory.ensures.vocabulary; whole = search rules }
+    record { within = vocabulary-within sheet c.memory-memory.ensures.vocabulary }
 
 pub returns : goal.returns
 returns c =

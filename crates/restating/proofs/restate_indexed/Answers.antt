@@ -1,6 +1,5 @@
 -- A refusal leaves the slots; where a sheet is written, they are the index of the old names, which is the new one's.
 use borrow.Author.Rules.{rules}
-use Rattle.definitions.specs.NameIndex.{slot_count}
 use Rattle.sheet.proofs.Admitted.{with_header}
 use Rattle.sheet.proofs.Indexing.{vocabulary-within, few_names, built}
 use Rattle.restating.proofs.Answers.{told, slots_kept, slots-built}
@@ -12,12 +11,11 @@ returns-in_err-length c =
     record { fills = told answer (search rules); slots_after = slots_kept _ _ _ answer c.in_err-length.was _ }
 
 pub build-requires : goal.build-requires
-unfolding slot_count
 build-requires c =
     let record { bytes = bytes; vocabulary = is; accepted = accepted } = c.memory.ensures in
     rw bytes
     record {
-      slots_len = (search rules, vocabulary-within (with_header accepted) is);
+      within = vocabulary-within (with_header accepted) is;
       name_count_bound = few_names (with_header accepted) is;
     }
 

@@ -5,7 +5,6 @@ use Rattle.std.proofs.Common.{rules}
 use Rattle.std.specs.Prelude.{Err}
 use Rattle.definitions.specs.Outcome.{accepted}
 use Rattle.definitions.specs.Admission.{header_checks}
-use Rattle.definitions.specs.NameIndex.{slot_count}
 use Rattle.sheet.specs.Header.{HasHeader}
 use Rattle.sheet.proofs.Stages.{stage_accepted, stage_refuses}
 use Rattle.sheet.proofs.Order.{header_given}
@@ -45,9 +44,8 @@ pub invariant_of-memory : goal.invariant_of-memory
 invariant_of-memory c = record { fits = λ i. omega (arith, c.type_inv.s i) }
 
 pub invariant_of-index : goal.invariant_of-index
-unfolding slot_count
 invariant_of-index c =
-    record { within = rw c.vocabulary.ensures (within (has_header (goal.at.invariant_of-index c).In_ok-h)); whole = omega arith }
+    record { within = rw c.vocabulary.ensures (within (has_header (goal.at.invariant_of-index c).In_ok-h)) }
 
 pub returns : goal.returns
 returns c =

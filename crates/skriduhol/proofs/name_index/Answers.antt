@@ -40,12 +40,11 @@ returns-in_err-sheet c =
     rw (← passed) (index_refused (rw was at c.new-checked.ensures) at)
 
 pub build-requires : goal.build-requires
-unfolding slot_count
 build-requires c =
     let sheet = (is_admitted (goal.at.build-requires c).In_ok-sheet).1 in
     let (bytes, is) = its_memory (goal.at.build-requires c).After-memory in
     rw (bytes, is)
-    record { slots_len = (omega arith, within (has_header sheet.sheet)); name_count_bound = names_fit (with_header sheet) }
+    record { within = within (has_header sheet.sheet); name_count_bound = names_fit (with_header sheet) }
 
 pub returns : goal.returns
 unfolding slot_count
