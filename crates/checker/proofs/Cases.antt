@@ -26,7 +26,7 @@ use Rattle.checker.specs.Asking.{label_prop, OfKind, term_of, Few, NameHeld, Wel
 use Rattle.checker.specs.Judging.{Inferred}
 use Rattle.checker.specs.Helping.{After, Bound}
 use Rattle.checker.proofs.Forms.{Three, case_view}
-use Rattle.checker.proofs.Sides.{Unopened, Opening, unopened, opening}
+use Rattle.checker.proofs.Sides.{Unopened, Opening, unopened_at, opening_at}
 use Rattle.checker.proofs.Inferring.{head_stands_there, head_halves}
 use Rattle.checker.proofs.Steps.{Call, call, few, bound_in, restored, answer_space}
 
@@ -65,14 +65,14 @@ module _ {records code : List ℕ} {stride : ℕ} {scope : List (Option ℕ)} {m
     pub entries : Entries code scope₁
     entries = rw i.same j.entries
 
-    module _ {opened : Result ℕ ℕ} (x : Expected code mades₁ r Or n opened) where
+    module _ {d : ℕ} (is : r ≡ Ok d) {opened : Result ℕ ℕ} (x : Expected code mades₁ d Or n opened) where
       pub head_unopened : {k : ℕ} → opened ≡ Err k → Unopened code scope (term a) (n + 1) Or n k
-      head_unopened l = unopened i.answer x l
+      head_unopened l = unopened_at i.answer is x l
 
       -- it is a disjunction that stands
       module _ {h : ℕ} (l : opened ≡ Ok h) where
         pub head_opening : Opening code scope mades₁ (term a) (n + 1) Or h
-        head_opening = opening i.answer x l
+        head_opening = opening_at i.answer is x l
 
         pub head_stood : Stood code h
         head_stood = head_stands_there head_opening

@@ -18,7 +18,7 @@ use Rattle.proof_term.proofs.Views.{number_of_kind}
 use Rattle.proof_term.specs.Records.{field_at, parameter_label}
 use Rattle.prop_numbers.specs.declared.Made.{Made}
 use Rattle.prop_numbers.specs.Standing.{name_space, Stood, Known}
-use Rattle.prop_numbers.specs.Answering.{Side, NoSide, Expected, Tested, Agreed}
+use Rattle.prop_numbers.specs.Answering.{Side, NoSide, Expected, Agreed}
 use Rattle.prop_numbers.proofs.Reps.{kept_all, kept_wider}
 use Rattle.prop_numbers.proofs.Halves.{Halves, half}
 use Rattle.checker.specs.Asking.{OfKind, label_prop, term_of, Few, NameHeld, Well, Judgeable}
@@ -28,6 +28,7 @@ use Rattle.checker.proofs.Forms.{One, Two, function_view, pair_view, inl_view, i
 use Rattle.checker.proofs.Checking.{pair_other, function_other, inl_other, inr_other, pair_fails, pair_then, inl_part, inr_part, function_label, function_body, abort_part, sorry_passes, let_fails, case_unopened, case_fails, case_then, Falls, fall_stops, fall_same, fall_differ}
 use Rattle.checker.proofs.Steps.{Call, call, bound_in, restored, side_halves, known_answer, checked_at, checks_under}
 use Rattle.checker.proofs.Parts.{first_call, first_few, first_kept, second_is, second_call, both_kept}
+use Rattle.checker.proofs.Sides.{Unopened, uninferred}
 use Rattle.checker.proofs.Cases.{head_unopened, head_opening, head_half, sides, left_name, right_name, left_under, left_back, left_kept, right_under, right_back, right_kept, right_node, term_is, view}
 
 module _ {records code : List ℕ} {stride : ℕ} {scope : List (Option ℕ)} {mades : List Made} {m n p : ℕ} (j : Judgeable records code stride scope mades m n) (stood : Stood code p)
@@ -160,45 +161,50 @@ module _ {records code : List ℕ} {stride : ℕ} {scope : List (Option ℕ)} {m
     pub fall_known : (q : ℕ) → r ≡ Ok q → Known code mades' q
     fall_known q h = known_answer i.answer h j.room
 
-    pub fall_done : {x : Result (Unit {0}) ℕ} → Falls (term m) → Agreed code mades' r p n x → At scope' mades' x
-    fall_done {x} falls g = go r refl
-      where
-        tested : {q : ℕ} → r ≡ Ok q → (t : Tested code mades' q p n x) (test : Bool) → t.test ≡ test → At scope' mades' x
-        tested l t true is = rw (t.is ∙ ap (λ (b : Bool). cond b (Ok tt) (Err n)) is) (checked_at refl (fall_same falls i.answer l stood t.alike is) i.same i.kept)
-        tested l t false is = rw (t.is ∙ ap (λ (b : Bool). cond b (Ok tt) (Err n)) is) (checked_at refl (fall_differ falls i.answer l stood t.alike is) i.same i.kept)
+    module _ (falls : Falls (term m)) where
+      pub fall_stop : {k : ℕ} → r ≡ Err k → At scope' mades' (Err k)
+      fall_stop l = checked_at refl (fall_stops falls i.answer l) i.same i.kept
 
-        go : (a : Result ℕ ℕ) → r ≡ a → At scope' mades' x
-        go (Err k) l = rw (g.stop k l) (checked_at refl (fall_stops falls i.answer l) i.same i.kept)
-        go (Ok q) l = tested l (g.tested q l) (g.tested q l).test refl
+      pub fall_done : {q : ℕ} {x : Result (Unit {0}) ℕ} → r ≡ Ok q → Agreed code mades' q p n x → At scope' mades' x
+      fall_done {x = x} l t = tested t.test refl
+        where
+          tested : (test : Bool) → t.test ≡ test → At scope' mades' x
+          tested true is = rw (t.is ∙ ap (λ (b : Bool). cond b (Ok tt) (Err n)) is) (checked_at refl (fall_same falls i.answer l stood t.alike is) i.same i.kept)
+          tested false is = rw (t.is ∙ ap (λ (b : Bool). cond b (Ok tt) (Err n)) is) (checked_at refl (fall_differ falls i.answer l stood t.alike is) i.same i.kept)
 
   -- A case, by what its head infers.
-  module _ (e : OfKind records m variant.Case) {scope₁ : List (Option ℕ)} {mades₁ : List Made} {r opened : Result ℕ ℕ} (i : Inferred records code stride scope mades a (n + 1) scope₁ mades₁ r)
-      (x : Expected code mades₁ r Or n opened) where
-    pub case_stop : {k : ℕ} → opened ≡ Err k → At scope₁ mades₁ (Err k)
-    case_stop l =
-        checked_at (view j ea e).is (case_unopened (head_unopened j ea e i x l)) i.same
-        (kept_wider n (n + nodes (term m)) (omega arith) (omega (arith, (view j ea e).size)) i.kept)
+  module _ (e : OfKind records m variant.Case) {scope₁ : List (Option ℕ)} {mades₁ : List Made} {r : Result ℕ ℕ} (i : Inferred records code stride scope mades a (n + 1) scope₁ mades₁ r) where
+    case_unopened_at : {k : ℕ} → Unopened code scope (term a) (n + 1) Or n k → At scope₁ mades₁ (Err k)
+    case_unopened_at u =
+        checked_at (view j ea e).is (case_unopened u) i.same (kept_wider n (n + nodes (term m)) (omega arith) (omega (arith, (view j ea e).size)) i.kept)
 
-    module _ {h : ℕ} (l : opened ≡ Ok h) {b next : ℕ} (eb : b ≡ field_at records m 2) (en : After records a (n + 1) next) {bound : List (Option ℕ)} {hidden : Option ℕ}
-        (bd : Bound scope₁ (field_at records m 4) (h + 1) bound hidden) {called : List (Option ℕ)} {mades₂ : List Made} {back : List (Option ℕ)} {q : Result (Unit {0}) ℕ}
-        (c : Checked records code stride bound mades₁ b next p called mades₂ q) (off : back ≡ set called (field_at records m 4) hidden) where
-      left_answer : ChecksAs code (set scope (field_at records m 4) (Some (h + 1))) (term b) (n + 1 + nodes (term a)) p q
-      left_answer = checks_under (sym c.same ∙ left_under j ea e i x l eb en bd c.same c.kept off) (en labels) c.answer
+    pub case_uninferred : {k : ℕ} → r ≡ Err k → At scope₁ mades₁ (Err k)
+    case_uninferred l = case_unopened_at (uninferred i.answer l)
 
-      pub case_fail : {k : ℕ} → q ≡ Err k → At back mades₂ (Err k)
-      case_fail fails =
-          checked_at (rw eb (view j ea e).is)
-          (case_fails {b = term (field_at records m 3)} {y = field_at records m 5} (left_name j ea e).below j.entries (head_opening j ea e i x l) (head_half j ea e i x l) left_answer fails)
-          (left_back j ea e i x l eb en bd c.same c.kept off) (left_kept j ea e i x l eb en bd c.same c.kept off)
+    module _ {head : ℕ} (given : r ≡ Ok head) {opened : Result ℕ ℕ} (x : Expected code mades₁ head Or n opened) where
+      pub case_stop : {k : ℕ} → opened ≡ Err k → At scope₁ mades₁ (Err k)
+      case_stop l = case_unopened_at (head_unopened j ea e i given x l)
 
-      pub case_done : {u : Unit {0}} → q ≡ Ok u → {d last side : ℕ} → (ed : d ≡ field_at records m 3) → (el : After records b next last) → (scanned : Scanned name_space code (h + 1) side)
-          → {bound₂ : List (Option ℕ)} {hidden₂ : Option ℕ} → (bd₂ : Bound back (field_at records m 5) side bound₂ hidden₂) → {called₂ : List (Option ℕ)} {mades₃ : List Made} {back₂ : List (Option ℕ)} {q₂ : Result (Unit {0}) ℕ}
-          → Checked records code stride bound₂ mades₂ d last p called₂ mades₃ q₂ → back₂ ≡ set called₂ (field_at records m 5) hidden₂ → At back₂ mades₃ q₂
-      case_done ok ed el scanned bd₂ c₂ off₂ =
-          let s = c.same in
-          checked_at (term_is j ea e i x l eb en bd s c.kept off ed el scanned bd₂)
-          (case_then (left_name j ea e).below j.entries (head_opening j ea e i x l) (sides j ea e i x l scanned) left_answer (right_name j ea e).below ok
-          (checks_under (sym c₂.same ∙ right_under j ea e i x l eb en bd s c.kept off ed el scanned bd₂ c₂.same)
-          (right_node j ea e i x l eb en bd s c.kept off ed el scanned bd₂) c₂.answer))
-          (right_back j ea e i x l eb en bd s c.kept off ed el scanned bd₂ c₂.same off₂)
-          (right_kept j ea e i x l eb en bd s c.kept off ed el scanned bd₂ c₂.kept)
+      module _ {h : ℕ} (l : opened ≡ Ok h) {b next : ℕ} (eb : b ≡ field_at records m 2) (en : After records a (n + 1) next) {bound : List (Option ℕ)} {hidden : Option ℕ}
+          (bd : Bound scope₁ (field_at records m 4) (h + 1) bound hidden) {called : List (Option ℕ)} {mades₂ : List Made} {back : List (Option ℕ)} {q : Result (Unit {0}) ℕ}
+          (c : Checked records code stride bound mades₁ b next p called mades₂ q) (off : back ≡ set called (field_at records m 4) hidden) where
+        left_answer : ChecksAs code (set scope (field_at records m 4) (Some (h + 1))) (term b) (n + 1 + nodes (term a)) p q
+        left_answer = checks_under (sym c.same ∙ left_under j ea e i given x l eb en bd c.same c.kept off) (en labels) c.answer
+
+        pub case_fail : {k : ℕ} → q ≡ Err k → At back mades₂ (Err k)
+        case_fail fails =
+            checked_at (rw eb (view j ea e).is)
+            (case_fails {b = term (field_at records m 3)} {y = field_at records m 5} (left_name j ea e).below j.entries (head_opening j ea e i given x l) (head_half j ea e i given x l) left_answer fails)
+            (left_back j ea e i given x l eb en bd c.same c.kept off) (left_kept j ea e i given x l eb en bd c.same c.kept off)
+
+        pub case_done : {u : Unit {0}} → q ≡ Ok u → {d last side : ℕ} → (ed : d ≡ field_at records m 3) → (el : After records b next last) → (scanned : Scanned name_space code (h + 1) side)
+            → {bound₂ : List (Option ℕ)} {hidden₂ : Option ℕ} → (bd₂ : Bound back (field_at records m 5) side bound₂ hidden₂) → {called₂ : List (Option ℕ)} {mades₃ : List Made} {back₂ : List (Option ℕ)} {q₂ : Result (Unit {0}) ℕ}
+            → Checked records code stride bound₂ mades₂ d last p called₂ mades₃ q₂ → back₂ ≡ set called₂ (field_at records m 5) hidden₂ → At back₂ mades₃ q₂
+        case_done ok ed el scanned bd₂ c₂ off₂ =
+            let s = c.same in
+            checked_at (term_is j ea e i given x l eb en bd s c.kept off ed el scanned bd₂)
+            (case_then (left_name j ea e).below j.entries (head_opening j ea e i given x l) (sides j ea e i given x l scanned) left_answer (right_name j ea e).below ok
+            (checks_under (sym c₂.same ∙ right_under j ea e i given x l eb en bd s c.kept off ed el scanned bd₂ c₂.same)
+            (right_node j ea e i given x l eb en bd s c.kept off ed el scanned bd₂) c₂.answer))
+            (right_back j ea e i given x l eb en bd s c.kept off ed el scanned bd₂ c₂.same off₂)
+            (right_kept j ea e i given x l eb en bd s c.kept off ed el scanned bd₂ c₂.kept)

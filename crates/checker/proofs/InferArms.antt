@@ -18,17 +18,18 @@ use Rattle.proof_term.specs.declared.nodes.Kind.TheVariants as variant
 use Rattle.proof_term.proofs.Views.{number_of_kind}
 use Rattle.proof_term.specs.Records.{field_at, label_of, parameter_label}
 use Rattle.prop_numbers.specs.declared.Made.{Made}
-use Rattle.prop_numbers.specs.Standing.{node_limit, name_space, Stood, Known, Space, Kept, left_of, RightOf}
-use Rattle.prop_numbers.specs.Answering.{Expected, FirstSide, Projected, Makes, Tested, Agreed}
+use Rattle.prop_numbers.specs.Standing.{standing, node_limit, name_space, Stood, Known, Space, Kept, connective_of, left_of, RightOf, slotted}
+use Rattle.prop_numbers.specs.Answering.{Expected, FirstSide, Projected, Agreed}
 use Rattle.prop_numbers.proofs.Reps.{rep_kept, kept_all, kept_wider, kept_then, slot_kept}
 use Rattle.prop_numbers.proofs.Comparing.{alike_sym}
-use Rattle.prop_numbers.proofs.Halves.{expected_space}
+use Rattle.prop_numbers.proofs.Halves.{expected_same}
+use Rattle.prop_numbers.proofs.Fronts.{dec_connective}
 use Rattle.checker.specs.Asking.{OfKind, label_prop, term_of, Few, NameHeld, Well, Judgeable}
 use Rattle.checker.specs.Judging.{InfersAs, ChecksAs, Inferred, Checked}
 use Rattle.checker.specs.Helping.{After, Bound, Found, Ascribed, Annotated}
 use Rattle.checker.proofs.Forms.{One, Two, fst_view, snd_view, function_view, application_view, ascription_view, pair_view, ident_is, unit_is, inl_view, inr_view, abort_view, let_is, sorry_is}
 use Rattle.checker.proofs.Answers.{not_both, derives}
-use Rattle.checker.proofs.Sides.{Opening, unopened, opening}
+use Rattle.checker.proofs.Sides.{Unopened, Opening, uninferred, unopened, opening, unopened_at, opening_at}
 use Rattle.checker.proofs.Labels.{no_label, a_datatype, a_proposition, some_label}
 use Rattle.checker.proofs.Inferring.{ident_answer, unit_answer, let_stops, sorry_stops, inl_stops, inr_stops, abort_stops, fst_stops, snd_stops, fst_gives, snd_gives, argument_stands, application_stops, application_fails, application_gives, ascription_datatype, ascription_fails, ascription_gives, function_none, function_datatype, function_stops, function_gives, pair_first, pair_second, pair_gives, case_stops, case_left, case_right, case_gives, case_differ}
 use Rattle.checker.proofs.Steps.{Call, call, node_low, bound_in, restored, known_answer, answer_space, inferred_at, infers_under, checks_under}
@@ -80,27 +81,32 @@ module _ {records code : List ℕ} {stride : ℕ} {scope : List (Option ℕ)} {m
     part_kept : {F : ProofTerm ℕ → ProofTerm ℕ} → One records code stride m a F → Kept n (n + nodes (term m)) mades mades'
     part_kept v = kept_wider n (n + nodes (term m)) (omega arith) (omega (arith, v.size)) i.kept
 
-    -- a projection, by what is said of each way in which it ends
-    projected : {F : ProofTerm ℕ → ProofTerm ℕ} {Side : ℕ → ℕ → Type 0} {x : Result ℕ ℕ} (v : One records code stride m a F) (p : Projected code mades' r Side n x)
-        → ((k : ℕ) → p.whole ≡ Err k → InfersAs code scope mades' (F (term a)) n (Err k))
-        → ((w q : ℕ) → p.whole ≡ Ok w → Side w q → InfersAs code scope mades' (F (term a)) n (Ok q)) → At scope' mades' x
-    projected {x = x} v p stopped found = go p.whole refl
-      where
-        go : (w : Result ℕ ℕ) → p.whole ≡ w → At scope' mades' x
-        go (Err k) l = rw (p.stop k l) (inferred_at v.is (stopped k l) i.same (part_kept v))
-        go (Ok w) l = let (q, is, side) = p.side w l in rw is (inferred_at v.is (found w q l side) i.same (part_kept v))
+    pub fst_stop : {k : ℕ} → OfKind records m variant.ProjectFst → r ≡ Err k → At scope' mades' (Err k)
+    fst_stop e l = let v = fst_view own ea e in inferred_at v.is (fst_stops (uninferred i.answer l)) i.same (part_kept v)
 
-    pub fst_done : {x : Result ℕ ℕ} → OfKind records m variant.ProjectFst → Projected code mades' r (FirstSide mades') n x → At scope' mades' x
-    fst_done e p =
-        let v = fst_view own ea e in
-        projected v p (λ k l. fst_stops (unopened i.answer p.expected l))
-        (λ w q l side. fst_gives j.ends.space (omega (arith, j.room, v.size)) (opening i.answer p.expected l) side)
+    pub snd_stop : {k : ℕ} → OfKind records m variant.ProjectSnd → r ≡ Err k → At scope' mades' (Err k)
+    snd_stop e l = let v = snd_view own ea e in inferred_at v.is (snd_stops (uninferred i.answer l)) i.same (part_kept v)
 
-    pub snd_done : {x : Result ℕ ℕ} → OfKind records m variant.ProjectSnd → Projected code mades' r (RightOf code mades') n x → At scope' mades' x
-    snd_done e p =
-        let v = snd_view own ea e in
-        projected v p (λ k l. snd_stops (unopened i.answer p.expected l))
-        (λ w q l side. snd_gives j.ends.space (omega (arith, j.room, v.size)) (opening i.answer p.expected l) side)
+    module _ {p : ℕ} (is : r ≡ Ok p) where
+      -- a projection, by what is said of each way in which it ends
+      projected : {F : ProofTerm ℕ → ProofTerm ℕ} {Side : ℕ → ℕ → Type 0} {x : Result ℕ ℕ} → One records code stride m a F → Projected code mades' p Side n x
+          → (Unopened code scope (term a) (n + 1) And n n → InfersAs code scope mades' (F (term a)) n (Err n))
+          → ((q : ℕ) → Opening code scope mades' (term a) (n + 1) And p → Side p q → InfersAs code scope mades' (F (term a)) n (Ok q)) → At scope' mades' x
+      projected v s stops gives = by_cases (dec_connective (connective_of code mades' p) And)
+          (λ same.
+          let (q, found, side) = s.side same in
+          rw found (inferred_at v.is (gives q (opening i.answer is same) side) i.same (part_kept v)))
+          (λ differs. rw (s.other differs) (inferred_at v.is (stops (unopened i.answer is differs)) i.same (part_kept v)))
+
+      pub fst_done : {x : Result ℕ ℕ} → OfKind records m variant.ProjectFst → Projected code mades' p (FirstSide mades') n x → At scope' mades' x
+      fst_done e s =
+          let v = fst_view own ea e in
+          projected v s (λ u. fst_stops u) (λ q o side. fst_gives j.ends.space (omega (arith, j.room, v.size)) o side)
+
+      pub snd_done : {x : Result ℕ ℕ} → OfKind records m variant.ProjectSnd → Projected code mades' p (RightOf code mades') n x → At scope' mades' x
+      snd_done e s =
+          let v = snd_view own ea e in
+          projected v s (λ u. snd_stops u) (λ q o side. snd_gives j.ends.space (omega (arith, j.room, v.size)) o side)
 
   -- An application.
   module _ (e : OfKind records m variant.Application) where
@@ -117,16 +123,22 @@ module _ {records code : List ℕ} {stride : ℕ} {scope : List (Option ℕ)} {m
       pub application_space : (p : ℕ) → r ≡ Ok p → Space code mades' p
       application_space = answer_space i.answer j.ends.space (i.kept.long ∙ j.slots) (omega (arith, j.room, application_is.size))
 
-      module _ {inferred : Result ℕ ℕ} (x : Expected code mades' r Impl n inferred) where
-        pub application_stop : {k : ℕ} → inferred ≡ Err k → At scope' mades' (Err k)
-        application_stop l = inferred_at application_is.is (application_stops (unopened i.answer x l)) i.same (first_kept j application_is i.kept)
+      application_unopened : {k : ℕ} → Unopened code scope (term a) (n + 1) Impl n k → At scope' mades' (Err k)
+      application_unopened u = inferred_at application_is.is (application_stops u) i.same (first_kept j application_is i.kept)
 
-        module _ {p : ℕ} (l : inferred ≡ Ok p) where
+      pub application_uninferred : {k : ℕ} → r ≡ Err k → At scope' mades' (Err k)
+      application_uninferred l = application_unopened (uninferred i.answer l)
+
+      module _ {head : ℕ} (is : r ≡ Ok head) {found : Result ℕ ℕ} (x : Expected code mades' head Impl n found) where
+        pub application_stop : {k : ℕ} → found ≡ Err k → At scope' mades' (Err k)
+        application_stop l = application_unopened (unopened_at i.answer is x l)
+
+        module _ {p : ℕ} (l : found ≡ Ok p) where
           opened : Opening code scope mades' (term a) (n + 1) Impl p
-          opened = opening i.answer x l
+          opened = opening_at i.answer is x l
 
           pub application_found : Space code mades' p
-          application_found = expected_space application_space (rw l at x)
+          application_found = rw (expected_same (rw l at x)) (application_space head is)
 
           module _ {argument side : ℕ} (al : argument ≡ left_of mades' p) (sl : RightOf code mades' p side) where
             pub application_argument : Stood code argument
@@ -245,29 +257,27 @@ module _ {records code : List ℕ} {stride : ℕ} {scope : List (Option ℕ)} {m
           function_call = call j function_is.less (bound_in bd function_name.below j.entries function_stood) j.slots (omega (arith, j.room, function_is.size))
 
           module _ {called : List (Option ℕ)} {mades' : List Made} {r : Result ℕ ℕ} (i : Inferred records code stride bound mades a (n + 1) called mades' r) where
-            pub function_done : {back : List (Option ℕ)} {last : List Made} {y : Result ℕ ℕ} → back ≡ set called (field_at records m 2) hidden → Makes mades' n Impl label r last y → At back last y
-            function_done {back} {last} {y} off made = go r refl
-              where
-                slots : length mades' ≡ node_limit
-                slots = i.kept.long ∙ j.slots
+            module _ {back : List (Option ℕ)} (off : back ≡ set called (field_at records m 2) hidden) where
+              function_slots : length mades' ≡ node_limit
+              function_slots = i.kept.long ∙ j.slots
 
-                answer : InfersAs code (set scope (field_at records m 2) (Some label)) mades' (term a) (n + 1) r
-                answer = infers_under bd.bound refl i.answer
+              function_answer : InfersAs code (set scope (field_at records m 2) (Some label)) mades' (term a) (n + 1) r
+              function_answer = infers_under bd.bound refl i.answer
 
-                same : back ≡ scope
-                same = restored bd function_name.below j.entries i.same off
+              function_same : back ≡ scope
+              function_same = restored bd function_name.below j.entries i.same off
 
-                kept : Kept n (n + nodes (term m)) mades mades'
-                kept = kept_wider n (n + nodes (term m)) (omega arith) (omega (arith, function_is.size)) i.kept
+              function_kept : Kept n (n + nodes (term m)) mades mades'
+              function_kept = kept_wider n (n + nodes (term m)) (omega arith) (omega (arith, function_is.size)) i.kept
 
-                go : (o : Result ℕ ℕ) → r ≡ o → At back last y
-                go (Err k) h =
-                    rw ((made.stop k h).0, (made.stop k h).1) (inferred_at function_labelled (function_stops function_name.below j.entries function_stood answer h) same kept)
-                go (Ok p) h =
-                    let slot = made.made p h in
-                    rw (slot.0, slot.1)
-                    (inferred_at function_labelled (function_gives function_name.below j.entries function_stood answer slots (omega (arith, j.room, function_is.size)) h) same
-                    (kept_then kept (kept_wider n (n + nodes (term m)) (omega arith) (omega (arith, function_is.size)) (slot_kept mades' n Impl label p slots (node_low j) (n + 1) (omega arith)))))
+              pub function_body_stop : {k : ℕ} → r ≡ Err k → At back mades' (Err k)
+              function_body_stop h = inferred_at function_labelled (function_stops function_name.below j.entries function_stood function_answer h) function_same function_kept
+
+              pub function_done : {p y : ℕ} {last : List Made} → r ≡ Ok p → y ≡ standing + n → last ≡ slotted mades' n Impl label p → At back last (Ok y)
+              function_done {p} h number slot =
+                  rw (number, slot)
+                  (inferred_at function_labelled (function_gives function_name.below j.entries function_stood function_answer function_slots (omega (arith, j.room, function_is.size)) h) function_same
+                  (kept_then function_kept (kept_wider n (n + nodes (term m)) (omega arith) (omega (arith, function_is.size)) (slot_kept mades' n Impl label p function_slots (node_low j) (n + 1) (omega arith)))))
 
   -- A pair.
   module _ (e : OfKind records m variant.Pair) where
@@ -289,118 +299,114 @@ module _ {records code : List ℕ} {stride : ℕ} {scope : List (Option ℕ)} {m
         pair_next = second_call j pair_is i.kept eb en i.same
 
         module _ {scope'' : List (Option ℕ)} {mades'' : List Made} {r' : Result ℕ ℕ} (d : Inferred records code stride scope' mades' b next scope'' mades'' r') where
-          pub pair_done : {last : List Made} {y : Result ℕ ℕ} → Makes mades'' n And p r' last y → At scope'' last y
-          pair_done {last} {y} made = go r' refl
-            where
-              is : term m ≡ Pair (term a) (term b)
-              is = second_is j pair_is i.kept eb en
+          pair_whole : term m ≡ Pair (term a) (term b)
+          pair_whole = second_is j pair_is i.kept eb en
 
-              slots : length mades'' ≡ node_limit
-              slots = d.kept.long ∙ i.kept.long ∙ j.slots
+          pair_slots : length mades'' ≡ node_limit
+          pair_slots = d.kept.long ∙ i.kept.long ∙ j.slots
 
-              answer : InfersAs code scope mades'' (term b) (n + 1 + nodes (term a)) r'
-              answer = infers_under i.same (en labels) d.answer
+          pair_answer : InfersAs code scope mades'' (term b) (n + 1 + nodes (term a)) r'
+          pair_answer = infers_under i.same (en labels) d.answer
 
-              same : scope'' ≡ scope
-              same = d.same ∙ i.same
+          pair_same : scope'' ≡ scope
+          pair_same = d.same ∙ i.same
 
-              kept : Kept n (n + nodes (term m)) mades mades''
-              kept = both_kept j pair_is i.kept eb en d.kept
+          pair_kept : Kept n (n + nodes (term m)) mades mades''
+          pair_kept = both_kept j pair_is i.kept eb en d.kept
 
-              go : (o : Result ℕ ℕ) → r' ≡ o → At scope'' last y
-              go (Err k) h = rw ((made.stop k h).0, (made.stop k h).1) (inferred_at is (pair_second i.answer l answer h) same kept)
-              go (Ok q) h =
-                  let slot = made.made q h in
-                  rw (slot.0, slot.1)
-                  (inferred_at is (pair_gives i.answer l answer slots (omega (arith, en labels, second_room j pair_is i.kept eb en, j.room)) (rw (en labels) at d.kept) h) same
-                  (kept_then kept (kept_wider n (n + nodes (term m)) (omega arith) (omega (arith, pair_is.size)) (slot_kept mades'' n And p q slots (node_low j) (n + 1) (omega arith)))))
+          pub pair_second_stop : {k : ℕ} → r' ≡ Err k → At scope'' mades'' (Err k)
+          pair_second_stop h = inferred_at pair_whole (pair_second i.answer l pair_answer h) pair_same pair_kept
+
+          pub pair_done : {q y : ℕ} {last : List Made} → r' ≡ Ok q → y ≡ standing + n → last ≡ slotted mades'' n And p q → At scope'' last (Ok y)
+          pair_done {q} h number slot =
+              rw (number, slot)
+              (inferred_at pair_whole (pair_gives i.answer l pair_answer pair_slots (omega (arith, en labels, second_room j pair_is i.kept eb en, j.room)) (rw (en labels) at d.kept) h) pair_same
+              (kept_then pair_kept (kept_wider n (n + nodes (term m)) (omega arith) (omega (arith, pair_is.size)) (slot_kept mades'' n And p q pair_slots (node_low j) (n + 1) (omega arith)))))
 
   -- A case, by what its head infers.
-  module _ (e : OfKind records m variant.Case) {scope₁ : List (Option ℕ)} {mades₁ : List Made} {r opened : Result ℕ ℕ} (i : Inferred records code stride scope mades a (n + 1) scope₁ mades₁ r)
-      (x : Expected code mades₁ r Or n opened) where
-    pub case_stop : {k : ℕ} → opened ≡ Err k → At scope₁ mades₁ (Err k)
-    case_stop l =
-        inferred_at (view j ea e).is (case_stops (head_unopened j ea e i x l)) i.same
-        (kept_wider n (n + nodes (term m)) (omega arith) (omega (arith, (view j ea e).size)) i.kept)
+  module _ (e : OfKind records m variant.Case) {scope₁ : List (Option ℕ)} {mades₁ : List Made} {r : Result ℕ ℕ} (i : Inferred records code stride scope mades a (n + 1) scope₁ mades₁ r) where
+    case_unopened : {k : ℕ} → Unopened code scope (term a) (n + 1) Or n k → At scope₁ mades₁ (Err k)
+    case_unopened u =
+        inferred_at (view j ea e).is (case_stops u) i.same (kept_wider n (n + nodes (term m)) (omega arith) (omega (arith, (view j ea e).size)) i.kept)
 
-    module _ {h : ℕ} (l : opened ≡ Ok h) {b next : ℕ} (eb : b ≡ field_at records m 2) (en : After records a (n + 1) next) {bound : List (Option ℕ)} {hidden : Option ℕ}
-        (bd : Bound scope₁ (field_at records m 4) (h + 1) bound hidden) {called : List (Option ℕ)} {mades₂ : List Made} {back : List (Option ℕ)} {q : Result ℕ ℕ}
-        (c : Inferred records code stride bound mades₁ b next called mades₂ q) (off : back ≡ set called (field_at records m 4) hidden) where
-      left_answer : InfersAs code (set scope (field_at records m 4) (Some (h + 1))) mades₂ (term b) (n + 1 + nodes (term a)) q
-      left_answer = infers_under (sym c.same ∙ left_under j ea e i x l eb en bd c.same c.kept off) (en labels) c.answer
+    pub case_uninferred : {k : ℕ} → r ≡ Err k → At scope₁ mades₁ (Err k)
+    case_uninferred l = case_unopened (uninferred i.answer l)
 
-      pub case_left_stop : {k : ℕ} → q ≡ Err k → At back mades₂ (Err k)
-      case_left_stop s =
-          inferred_at (rw eb (view j ea e).is)
-          (case_left {b = term (field_at records m 3)} {y = field_at records m 5} (left_name j ea e).below j.entries (head_opening j ea e i x l) (head_half j ea e i x l) left_answer s)
-          (left_back j ea e i x l eb en bd c.same c.kept off) (left_kept j ea e i x l eb en bd c.same c.kept off)
+    module _ {head : ℕ} (given : r ≡ Ok head) {opened : Result ℕ ℕ} (x : Expected code mades₁ head Or n opened) where
+      pub case_stop : {k : ℕ} → opened ≡ Err k → At scope₁ mades₁ (Err k)
+      case_stop l = case_unopened (head_unopened j ea e i given x l)
 
-      module _ {left : ℕ} (low : q ≡ Ok left) {d last side : ℕ} (ed : d ≡ field_at records m 3) (el : After records b next last) (scanned : Scanned name_space code (h + 1) side)
-          {bound₂ : List (Option ℕ)} {hidden₂ : Option ℕ} (bd₂ : Bound back (field_at records m 5) side bound₂ hidden₂) {called₂ : List (Option ℕ)} {mades₃ : List Made} {back₂ : List (Option ℕ)} {q₂ : Result ℕ ℕ}
-          (c₂ : Inferred records code stride bound₂ mades₂ d last called₂ mades₃ q₂) (off₂ : back₂ ≡ set called₂ (field_at records m 5) hidden₂) where
-        right_answer : InfersAs code (set scope (field_at records m 5) (Some side)) mades₃ (term d) (n + 1 + nodes (term a) + nodes (term b)) q₂
-        right_answer = infers_under (sym c₂.same ∙ right_under j ea e i x l eb en bd c.same c.kept off ed el scanned bd₂ c₂.same)
-            (right_node j ea e i x l eb en bd c.same c.kept off ed el scanned bd₂) c₂.answer
+      module _ {h : ℕ} (l : opened ≡ Ok h) {b next : ℕ} (eb : b ≡ field_at records m 2) (en : After records a (n + 1) next) {bound : List (Option ℕ)} {hidden : Option ℕ}
+          (bd : Bound scope₁ (field_at records m 4) (h + 1) bound hidden) {called : List (Option ℕ)} {mades₂ : List Made} {back : List (Option ℕ)} {q : Result ℕ ℕ}
+          (c : Inferred records code stride bound mades₁ b next called mades₂ q) (off : back ≡ set called (field_at records m 4) hidden) where
+        left_answer : InfersAs code (set scope (field_at records m 4) (Some (h + 1))) mades₂ (term b) (n + 1 + nodes (term a)) q
+        left_answer = infers_under (sym c.same ∙ left_under j ea e i given x l eb en bd c.same c.kept off) (en labels) c.answer
 
-        case_is : term m ≡ Case (term a) (field_at records m 4) (term b) (field_at records m 5) (term d)
-        case_is = term_is j ea e i x l eb en bd c.same c.kept off ed el scanned bd₂
+        pub case_left_stop : {k : ℕ} → q ≡ Err k → At back mades₂ (Err k)
+        case_left_stop s =
+            inferred_at (rw eb (view j ea e).is)
+            (case_left {b = term (field_at records m 3)} {y = field_at records m 5} (left_name j ea e).below j.entries (head_opening j ea e i given x l) (head_half j ea e i given x l) left_answer s)
+            (left_back j ea e i given x l eb en bd c.same c.kept off) (left_kept j ea e i given x l eb en bd c.same c.kept off)
 
-        same : back₂ ≡ scope
-        same = right_back j ea e i x l eb en bd c.same c.kept off ed el scanned bd₂ c₂.same off₂
+        module _ {left : ℕ} (low : q ≡ Ok left) {d last side : ℕ} (ed : d ≡ field_at records m 3) (el : After records b next last) (scanned : Scanned name_space code (h + 1) side)
+            {bound₂ : List (Option ℕ)} {hidden₂ : Option ℕ} (bd₂ : Bound back (field_at records m 5) side bound₂ hidden₂) {called₂ : List (Option ℕ)} {mades₃ : List Made} {back₂ : List (Option ℕ)} {q₂ : Result ℕ ℕ}
+            (c₂ : Inferred records code stride bound₂ mades₂ d last called₂ mades₃ q₂) (off₂ : back₂ ≡ set called₂ (field_at records m 5) hidden₂) where
+          right_answer : InfersAs code (set scope (field_at records m 5) (Some side)) mades₃ (term d) (n + 1 + nodes (term a) + nodes (term b)) q₂
+          right_answer = infers_under (sym c₂.same ∙ right_under j ea e i given x l eb en bd c.same c.kept off ed el scanned bd₂ c₂.same)
+              (right_node j ea e i given x l eb en bd c.same c.kept off ed el scanned bd₂) c₂.answer
 
-        kept : Kept n (n + nodes (term m)) mades mades₃
-        kept = right_kept j ea e i x l eb en bd c.same c.kept off ed el scanned bd₂ c₂.kept
+          case_is : term m ≡ Case (term a) (field_at records m 4) (term b) (field_at records m 5) (term d)
+          case_is = term_is j ea e i given x l eb en bd c.same c.kept off ed el scanned bd₂
 
-        whole_room : n + 1 + nodes (term a) + nodes (term b) + nodes (term d) ≤ node_limit
-        whole_room = omega (arith, el labels, en labels, right_room j ea e i x l eb en bd c.same c.kept off ed el scanned, j.room)
+          same : back₂ ≡ scope
+          same = right_back j ea e i given x l eb en bd c.same c.kept off ed el scanned bd₂ c₂.same off₂
 
-        right_slots : Kept (n + 1 + nodes (term a) + nodes (term b)) (n + 1 + nodes (term a) + nodes (term b) + nodes (term d)) mades₂ mades₃
-        right_slots = rw (el labels, en labels) at c₂.kept
+          kept : Kept n (n + nodes (term m)) mades mades₃
+          kept = right_kept j ea e i given x l eb en bd c.same c.kept off ed el scanned bd₂ c₂.kept
 
-        -- what both branches infer
-        pub case_right_known : (right : ℕ) → q₂ ≡ Ok right → Known code mades₃ right
-        case_right_known right s = known_answer c₂.answer s (omega (arith, right_room j ea e i x l eb en bd c.same c.kept off ed el scanned, j.room))
+          whole_room : n + 1 + nodes (term a) + nodes (term b) + nodes (term d) ≤ node_limit
+          whole_room = omega (arith, el labels, en labels, right_room j ea e i given x l eb en bd c.same c.kept off ed el scanned, j.room)
 
-        pub case_left_known : Known code mades₃ left
-        case_left_known = record {
-          lo = next;
-          hi = next + nodes (term b);
-          prop = (derives c.answer low).prop;
-          rep = rep_kept last (last + nodes (term d)) mades₃ (omega (arith, el labels)) c₂.kept (derives c.answer low).rep;
-          last = omega (arith, left_room j ea e i x l eb en, j.room);
-        }
+          right_slots : Kept (n + 1 + nodes (term a) + nodes (term b)) (n + 1 + nodes (term a) + nodes (term b) + nodes (term d)) mades₂ mades₃
+          right_slots = rw (el labels, en labels) at c₂.kept
 
-        module _ {x' : Result (Prim.Unit {0}) ℕ} (g : Agreed code mades₃ q₂ left n x') where
-          pub case_fail : {k : ℕ} → x' ≡ Err k → At back₂ mades₃ (Err k)
-          case_fail {k} fails = go q₂ refl
-            where
-              tested : {right : ℕ} → q₂ ≡ Ok right → (t : Tested code mades₃ right left n x') (test : Bool) → t.test ≡ test → At back₂ mades₃ (Err k)
-              tested s t true is = absurd (not_both (t.is ∙ ap (λ (b : Bool). cond b (Ok tt) (Err n)) is) fails)
-              tested s t false is =
-                  let here : n ≡ k = cc (t.is ∙ ap (λ (b : Bool). cond b (Ok tt) (Err n)) is) in
-                  rw (← here)
-                  (inferred_at case_is (case_differ (left_name j ea e).below j.entries (head_opening j ea e i x l) (sides j ea e i x l scanned) left_answer (right_name j ea e).below low right_answer
-                  (alike_sym t.alike) s right_slots whole_room is) same kept)
+          -- what both branches infer
+          pub case_right_known : (right : ℕ) → q₂ ≡ Ok right → Known code mades₃ right
+          case_right_known right s = known_answer c₂.answer s (omega (arith, right_room j ea e i given x l eb en bd c.same c.kept off ed el scanned, j.room))
 
-              go : (o : Result ℕ ℕ) → q₂ ≡ o → At back₂ mades₃ (Err k)
-              go (Err i') s =
-                  let here : i' ≡ k = cc (g.stop i' s) in
-                  rw (← here)
-                  (inferred_at case_is (case_right (left_name j ea e).below j.entries (head_opening j ea e i x l) (sides j ea e i x l scanned) left_answer (right_name j ea e).below low right_answer s) same kept)
-              go (Ok right) s = tested s (g.tested right s) (g.tested right s).test refl
+          pub case_left_known : Known code mades₃ left
+          case_left_known = record {
+            lo = next;
+            hi = next + nodes (term b);
+            prop = (derives c.answer low).prop;
+            rep = rep_kept last (last + nodes (term d)) mades₃ (omega (arith, el labels)) c₂.kept (derives c.answer low).rep;
+            last = omega (arith, left_room j ea e i given x l eb en, j.room);
+          }
 
-          pub case_pass : {u : Prim.Unit {0}} → x' ≡ Ok u → At back₂ mades₃ (Ok left)
-          case_pass ok = go q₂ refl
-            where
-              tested : {right : ℕ} → q₂ ≡ Ok right → (t : Tested code mades₃ right left n x') (test : Bool) → t.test ≡ test → At back₂ mades₃ (Ok left)
-              tested s t true is =
-                  inferred_at case_is (case_gives (left_name j ea e).below j.entries (head_opening j ea e i x l) (sides j ea e i x l scanned) left_answer (right_name j ea e).below low right_answer
-                  (alike_sym t.alike) s right_slots whole_room is) same kept
-              tested s t false is = absurd (not_both ok (t.is ∙ ap (λ (b : Bool). cond b (Ok tt) (Err n)) is))
+          pub case_right_stop : {k : ℕ} → q₂ ≡ Err k → At back₂ mades₃ (Err k)
+          case_right_stop s =
+              inferred_at case_is (case_right (left_name j ea e).below j.entries (head_opening j ea e i given x l) (sides j ea e i given x l scanned) left_answer (right_name j ea e).below low right_answer s) same kept
 
-              go : (o : Result ℕ ℕ) → q₂ ≡ o → At back₂ mades₃ (Ok left)
-              go (Err k) s = absurd (not_both ok (g.stop k s))
-              go (Ok right) s = tested s (g.tested right s) (g.tested right s).test refl
+          module _ {right : ℕ} (s : q₂ ≡ Ok right) {x' : Result (Prim.Unit {0}) ℕ} (g : Agreed code mades₃ right left n x') where
+            pub case_fail : {k : ℕ} → x' ≡ Err k → At back₂ mades₃ (Err k)
+            case_fail {k} fails = tested g.test refl
+              where
+                tested : (test : Bool) → g.test ≡ test → At back₂ mades₃ (Err k)
+                tested true is = absurd (not_both (g.is ∙ ap (λ (b : Bool). cond b (Ok tt) (Err n)) is) fails)
+                tested false is =
+                    let here : n ≡ k = cc (g.is ∙ ap (λ (b : Bool). cond b (Ok tt) (Err n)) is) in
+                    rw (← here)
+                    (inferred_at case_is (case_differ (left_name j ea e).below j.entries (head_opening j ea e i given x l) (sides j ea e i given x l scanned) left_answer (right_name j ea e).below low right_answer
+                    (alike_sym g.alike) s right_slots whole_room is) same kept)
+
+            pub case_pass : {u : Prim.Unit {0}} → x' ≡ Ok u → At back₂ mades₃ (Ok left)
+            case_pass ok = tested g.test refl
+              where
+                tested : (test : Bool) → g.test ≡ test → At back₂ mades₃ (Ok left)
+                tested true is =
+                    inferred_at case_is (case_gives (left_name j ea e).below j.entries (head_opening j ea e i given x l) (sides j ea e i given x l scanned) left_answer (right_name j ea e).below low right_answer
+                    (alike_sym g.alike) s right_slots whole_room is) same kept
+                tested false is = absurd (not_both ok (g.is ∙ ap (λ (b : Bool). cond b (Ok tt) (Err n)) is))
 
   -- Unit, and what has no inferring rule.
   pub unit_done : OfKind records m variant.Unit → At scope mades (Ok (length code - 2))

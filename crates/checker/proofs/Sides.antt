@@ -1,4 +1,4 @@
--- What has a connective has sides: of an answer that must have one, and of a proposition that stands.
+-- What has a connective has sides: of a proposition that is inferred and must have one, and of a proposition that stands.
 use Prim.Native.Nat.{ℕ, ◌+◌, ◌≤◌, ◌<◌}
 use mathlib.Core.Path.{◌≡◌, refl, ap, ◌∙◌}
 use mathlib.Core.Logic.{by_cases}
@@ -31,7 +31,7 @@ unfolding ◌>>=◌
 through (derived a) h k n e = rw e
 through (stopped j) h k n e = let same : j ≡ n = cc in ap stopped same
 
--- An answer that had to have a connective, and has not:
+-- Where something inferred must have a connective, and there is none:
 pub record Unopened (code : List ℕ) (scope : List (Option ℕ)) (t : ProofTerm ℕ) (n : ℕ) (c : Connective) (node k : ℕ) : Type 0 where
   pub means : (f : ℕ → Name) (g : Context) → Distinct f → Scoped f code scope g → (infer (rename_term f t) g n >>= (λ p. sides node (meant c) p)) ≡ stopped k
 
@@ -40,30 +40,34 @@ pub record Opening (code : List ℕ) (scope : List (Option ℕ)) (mades : List M
   pub derived_as : Deriving code scope mades t n p
   pub head : connective_of code mades p ≡ Some c
 
-module _ {code : List ℕ} {scope : List (Option ℕ)} {mades : List Made} {t : ProofTerm ℕ} {n node : ℕ} {r x : Result ℕ ℕ} {c : Connective}
-    (i : InfersAs code scope mades t n r) (e : Expected code mades r c node x) where
-  pub unopened : {k : ℕ} → x ≡ Err k → Unopened code scope t n c node k
+module _ {code : List ℕ} {scope : List (Option ℕ)} {mades : List Made} {t : ProofTerm ℕ} {n : ℕ} {r : Result ℕ ℕ} {c : Connective} (i : InfersAs code scope mades t n r) where
+  -- nothing is inferred
+  pub uninferred : {node k : ℕ} → r ≡ Err k → Unopened code scope t n c node k
   unfolding Means named ◌>>=◌
-  unopened {k} h = go r refl
-    where
-      go : (a : Result ℕ ℕ) → r ≡ a → Unopened code scope t n c node k
-      go (Err j) is =
-          let same : j ≡ k = cc (e.stop j is) in
-          record { means = λ f g d s. rw (stopping i is f g d s, same) }
-      go (Ok p) is =
-          let v = derives i is in
-          let differs : connective_of code mades p ≡ Some c → ⊥ = λ same. not_both (e.found p is same) h in
-          let same : node ≡ k = cc (e.other p is differs) in
-          record { means = λ f g d s. rw (v.means f g d s) (sides_else f node (meant c) v.prop (λ a b q. differs (binary_connective c a b v.rep q)) ∙ ap stopped same) }
+  uninferred h = record { means = λ f g d s. rw (stopping i h f g d s) }
 
-  pub opening : {p : ℕ} → x ≡ Ok p → Opening code scope mades t n c p
-  opening {p} h = go r refl
-    where
-      go : (a : Result ℕ ℕ) → r ≡ a → Opening code scope mades t n c p
-      go (Err j) is = absurd (not_both h (e.stop j is))
-      go (Ok q) is = by_cases (dec_connective (connective_of code mades q) c)
-          (λ same. let one : q ≡ p = cc (e.found q is same) in rw (← one) (record { derived_as = derives i is; head = same }))
-          (λ other. absurd (not_both h (e.other q is other)))
+  -- what is inferred is no such proposition
+  pub unopened : {node p : ℕ} → r ≡ Ok p → (connective_of code mades p ≡ Some c → ⊥) → Unopened code scope t n c node node
+  unfolding Means named ◌>>=◌
+  unopened {node} is differs =
+      let v = derives i is in
+      record { means = λ f g d s. rw (v.means f g d s) (sides_else f node (meant c) v.prop (λ a b q. differs (binary_connective c a b v.rep q))) }
+
+  pub opening : {p : ℕ} → r ≡ Ok p → connective_of code mades p ≡ Some c → Opening code scope mades t n c p
+  opening is same = record { derived_as = derives i is; head = same }
+
+  -- the same by what `with_connective` gives
+  module _ {node p : ℕ} {x : Result ℕ ℕ} (is : r ≡ Ok p) (e : Expected code mades p c node x) where
+    pub unopened_at : {k : ℕ} → x ≡ Err k → Unopened code scope t n c node k
+    unopened_at {k} h =
+        let differs : connective_of code mades p ≡ Some c → ⊥ = λ same. not_both (e.found same) h in
+        let here : node ≡ k = cc (e.other differs) in
+        rw (← here) (unopened is differs)
+
+    pub opening_at : {q : ℕ} → x ≡ Ok q → Opening code scope mades t n c q
+    opening_at {q} h = by_cases (dec_connective (connective_of code mades p) c)
+        (λ same. let one : p ≡ q = cc (e.found same) in rw (← one) (opening is same))
+        (λ other. absurd (not_both h (e.other other)))
 
 -- Its sides.
 module _ {code : List ℕ} {scope : List (Option ℕ)} {mades : List Made} {t : ProofTerm ℕ} {n res : ℕ} {c : Connective} (space : length code ≤ standing)

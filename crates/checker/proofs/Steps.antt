@@ -106,6 +106,6 @@ pub checks_under : {code : List ℕ} {scope bound : List (Option ℕ)} {t : Proo
 checks_under e i x = rw (← e, ← i) x
 
 -- what is expected over the code and the slots that were lent is expected over those that they are
-pub expected_here : {code code' : List ℕ} {mades mades' : List Made} {connective : Connective} {r res : Result ℕ ℕ} {node : ℕ} → (code' ≡ code) × (mades' ≡ mades)
-    → Expected code' mades' r connective node res → Expected code mades r connective node res
+pub expected_here : {code code' : List ℕ} {mades mades' : List Made} {connective : Connective} {p node : ℕ} {res : Result ℕ ℕ} → (code' ≡ code) × (mades' ≡ mades)
+    → Expected code' mades' p connective node res → Expected code mades p connective node res
 expected_here e found = rw (e.0, e.1) at found

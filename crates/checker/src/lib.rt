@@ -61,7 +61,7 @@ fn entry(scope: &[Option<u32>; NAMES], name: usize, node: usize) -> Result<usize
 // beside the parts and the names.
 // Binding a name around one call stands six times: a method over a closure would stand in the cycle of calls with each closure, and each
 // use would ask a measure and a contract of both. The head of a case stands in two arms: a function for its two calls would be one more of
-// the cycle, and its contract would say again what `infer` and `expect` say.
+// the cycle, and its contract would say again what `infer` and `with_connective` say.
 // What every arm asks, JudgeableTerm, speaks of the state too, which each call changes, so that no ghost field beside m and node holds it.
 impl<'a> Terms<'a> {
     // The node after those of the term of record m, whose own is `node`.
@@ -179,7 +179,7 @@ impl<'a> Terms<'a> {
             | Kind::Application
             | Kind::TypeAscription
             | Kind::Unit => {
-                let r = self.infer(state, m, node);
+                let r = self.infer(state, m, node)?;
                 self.propositions(&state.made).agree(r, p, node)
             }
         }
@@ -229,10 +229,10 @@ impl<'a> Terms<'a> {
         ensures { CheckedTerm self.now m node p state.old state.new result }
     {
         let first = field(self.records, m, FIRST);
-        let inferred = self.infer(state, first, node + 1);
+        let inferred = self.infer(state, first, node + 1)?;
         let h = self
             .propositions(&state.made)
-            .expect(inferred, Connective::Or, node)?;
+            .with_connective(inferred, Connective::Or, node)?;
         let second = field(self.records, m, SECOND);
         let next = self.after(first, node + 1);
         let hidden = self.bind(&mut state.scope, m, LEFT_NAME, h + 1);
@@ -259,11 +259,11 @@ impl<'a> Terms<'a> {
         match kind {
             Kind::Ident => entry(&state.scope, first, node),
             Kind::ProjectFst => {
-                let r = self.infer(state, first, node + 1);
+                let r = self.infer(state, first, node + 1)?;
                 self.propositions(&state.made).first_side(r, node)
             }
             Kind::ProjectSnd => {
-                let r = self.infer(state, first, node + 1);
+                let r = self.infer(state, first, node + 1)?;
                 self.propositions(&state.made).second_side(r, node)
             }
             Kind::Application => self.infer_application(state, m, node),
@@ -288,9 +288,9 @@ impl<'a> Terms<'a> {
         ensures { InferredTerm self.now m node state.old state.new result }
     {
         let first = field(self.records, m, FIRST);
-        let inferred = self.infer(state, first, node + 1);
+        let inferred = self.infer(state, first, node + 1)?;
         let propositions = self.propositions(&state.made);
-        let p = propositions.expect(inferred, Connective::Impl, node)?;
+        let p = propositions.with_connective(inferred, Connective::Impl, node)?;
         let second = field(self.records, m, SECOND);
         let next = self.after(first, node + 1);
         let argument = propositions.left(p);
@@ -311,7 +311,8 @@ impl<'a> Terms<'a> {
         let hidden = self.bind(&mut state.scope, m, NAME, label);
         let r = self.infer(state, first, node + 1);
         self.unbind(&mut state.scope, m, NAME, hidden);
-        make(&mut state.made, node, Connective::Impl, label, r)
+        let r = r?;
+        Ok(make(&mut state.made, node, Connective::Impl, label, r))
     }
 
     // A pair: the conjunction of what its parts infer.
@@ -325,8 +326,8 @@ impl<'a> Terms<'a> {
         let p = self.infer(state, first, node + 1)?;
         let second = field(self.records, m, SECOND);
         let next = self.after(first, node + 1);
-        let q = self.infer(state, second, next);
-        make(&mut state.made, node, Connective::And, p, q)
+        let q = self.infer(state, second, next)?;
+        Ok(make(&mut state.made, node, Connective::And, p, q))
     }
 
     // A case: what both branches infer, each under its name for a side of the disjunction that the head infers.
@@ -337,10 +338,10 @@ impl<'a> Terms<'a> {
         ensures { InferredTerm self.now m node state.old state.new result }
     {
         let first = field(self.records, m, FIRST);
-        let inferred = self.infer(state, first, node + 1);
+        let inferred = self.infer(state, first, node + 1)?;
         let h = self
             .propositions(&state.made)
-            .expect(inferred, Connective::Or, node)?;
+            .with_connective(inferred, Connective::Or, node)?;
         let second = field(self.records, m, SECOND);
         let next = self.after(first, node + 1);
         let hidden = self.bind(&mut state.scope, m, LEFT_NAME, h + 1);
@@ -353,6 +354,7 @@ impl<'a> Terms<'a> {
         let hidden = self.bind(&mut state.scope, m, RIGHT_NAME, side);
         let r = self.infer(state, third, last);
         self.unbind(&mut state.scope, m, RIGHT_NAME, hidden);
+        let r = r?;
         self.propositions(&state.made).agree(r, q, node)?;
         Ok(q)
     }

@@ -114,16 +114,8 @@ space_of few slots k = record {
   slots = slots;
 }
 
--- an answer that is as expected is the answer itself
-pub expected_space : {code : List ℕ} {made : List Made} {answer : Result ℕ ℕ} {c : Connective} {node p : ℕ} → ((r : ℕ) → answer ≡ Ok r → Space code made r)
-    → Expected code made answer c node (Ok p) → Space code made p
-expected_space {code} {made} {answer} {c} {node} {p} space e = go answer refl
-  where
-    go : (a : Result ℕ ℕ) → answer ≡ a → Space code made p
-    go (Err n) is = absurd (none (e.stop n is))
-      where
-        none : {n : ℕ} → Ok p ≡ Err n → ⊥
-        none e = cc
-    go (Ok r) is = by_cases (dec_connective (connective_of code made r) c)
-        (λ same. let one : p ≡ r = cc (e.found r is same) in rw one (space r is))
-        (λ other. let z = e.other r is other in cc)
+-- a proposition that is as expected is the one that was asked
+pub expected_same : {code : List ℕ} {made : List Made} {c : Connective} {node p q : ℕ} → Expected code made p c node (Ok q) → q ≡ p
+expected_same {code} {made} {c} {node} {p} {q} e = by_cases (dec_connective (connective_of code made p) c)
+    (λ same. cc (e.found same))
+    (λ other. let z = e.other other in cc)

@@ -16,15 +16,10 @@ pub record Alike (code : List ℕ) (made : List Made) (p q : ℕ) (r : Bool) : T
       → (f : ℕ → Name) → Distinct f → r ≡ eq_prop (rename_prop f a) (rename_prop f b)
 
 -- nothing where they are equal; else the node
-pub record Tested (code : List ℕ) (made : List Made) (r p node : ℕ) (x : Result (Unit {0}) ℕ) : Type 0 where
+pub record Agreed (code : List ℕ) (made : List Made) (p q node : ℕ) (x : Result (Unit {0}) ℕ) : Type 0 where
   pub test : Bool
-  pub alike : Alike code made r p test
+  pub alike : Alike code made p q test
   pub is : x ≡ cond test (Ok tt) (Err node)
-
--- the same of an answer, which may be the node that stops it
-pub record Agreed (code : List ℕ) (made : List Made) (answer : Result ℕ ℕ) (p node : ℕ) (x : Result (Unit {0}) ℕ) : Type 0 where
-  pub stop : (n : ℕ) → answer ≡ Err n → x ≡ Err n
-  pub tested : (r : ℕ) → answer ≡ Ok r → Tested code made r p node x
 
 -- what stands at p has that connective, and its left side ends there
 pub record Side (code : List ℕ) (p : ℕ) (c : Connective) (end : ℕ) : Type 0 where
@@ -40,24 +35,16 @@ pub record NoSide (code : List ℕ) (p : ℕ) (c : Connective) (node n : ℕ) : 
 abbrev pub SideOf : List ℕ → ℕ → Connective → ℕ → Result ℕ ℕ → Type 0
 SideOf code p c node r = MatchResult r (Side code p c) (NoSide code p c node)
 
--- what is inferred must have a connective: the answer itself, or else the node
-pub record Expected (code : List ℕ) (made : List Made) (answer : Result ℕ ℕ) (c : Connective) (node : ℕ) (x : Result ℕ ℕ) : Type 0 where
-  pub stop : (n : ℕ) → answer ≡ Err n → x ≡ Err n
-  pub found : (r : ℕ) → answer ≡ Ok r → connective_of code made r ≡ Some c → x ≡ Ok r
-  pub other : (r : ℕ) → answer ≡ Ok r → (connective_of code made r ≡ Some c → ⊥) → x ≡ Err node
+-- a proposition must have a connective: itself, or else the node
+pub record Expected (code : List ℕ) (made : List Made) (p : ℕ) (c : Connective) (node : ℕ) (x : Result ℕ ℕ) : Type 0 where
+  pub found : connective_of code made p ≡ Some c → x ≡ Ok p
+  pub other : (connective_of code made p ≡ Some c → ⊥) → x ≡ Err node
 
 -- the left side of a number
 abbrev pub FirstSide : List Made → ℕ → ℕ → Type 0
 FirstSide made p x = x ≡ left_of made p
 
--- a side of what is inferred, which must be ∧
-pub record Projected (code : List ℕ) (made : List Made) (answer : Result ℕ ℕ) (Side : ℕ → ℕ → Type 0) (node : ℕ) (x : Result ℕ ℕ) : Type 0 where
-  pub whole : Result ℕ ℕ
-  pub expected : Expected code made answer And node whole
-  pub stop : (n : ℕ) → whole ≡ Err n → x ≡ Err n
-  pub side : (p : ℕ) → whole ≡ Ok p → (q : ℕ) × (x ≡ Ok q) × Side p q
-
--- a proposition made of two, unless the second is none
-pub record Makes (before : List Made) (node : ℕ) (c : Connective) (left : ℕ) (right : Result ℕ ℕ) (after : List Made) (x : Result ℕ ℕ) : Type 0 where
-  pub stop : (n : ℕ) → right ≡ Err n → (x ≡ Err n) × (after ≡ before)
-  pub made : (p : ℕ) → right ≡ Ok p → (x ≡ Ok (standing + node)) × (after ≡ slotted before node c left p)
+-- a side of a proposition, which must be ∧, or else the node
+pub record Projected (code : List ℕ) (made : List Made) (p : ℕ) (Side : ℕ → ℕ → Type 0) (node : ℕ) (x : Result ℕ ℕ) : Type 0 where
+  pub side : connective_of code made p ≡ Some And → (q : ℕ) × (x ≡ Ok q) × Side p q
+  pub other : (connective_of code made p ≡ Some And → ⊥) → x ≡ Err node

@@ -2,14 +2,14 @@
 // that are equal where their bytes are, so two propositions that stand are equal where their code bytes are.
 #![tactic(auto)]
 
-ghost use Rattle.std.specs.Prelude.{◌≡◌, ℕ, ◌≤◌, ◌<◌, length, Ok};
+ghost use Rattle.std.specs.Prelude.{◌≡◌, ℕ, ◌+◌, ◌≤◌, ◌<◌, length, Ok};
 ghost use Rattle.definitions.specs.Name.{Name};
 ghost use Rattle.definitions.specs.Prop.{rename_prop};
 ghost use Rattle.definitions.specs.Equal.{eq_prop};
 ghost use Rattle.prefix_code.specs.PropAt.{prop_at, Present};
-ghost use Rattle.prop_numbers.specs.Standing.{standing, node_limit, number_limit, name_space, Space, connective_of, left_of, RightOf};
+ghost use Rattle.prop_numbers.specs.Standing.{standing, node_limit, number_limit, name_space, Space, connective_of, left_of, RightOf, slotted};
 ghost use Rattle.prop_numbers.specs.Standing.{Known, Stood, Distinct};
-ghost use Rattle.prop_numbers.specs.Answering.{Alike, Agreed, SideOf, Expected, FirstSide, Projected, Makes};
+ghost use Rattle.prop_numbers.specs.Answering.{Alike, Agreed, SideOf, Expected, FirstSide, Projected};
 
 use prefix_code::{CODE_LIMIT, Connective, Head, known_end, scan};
 use proof_term::NODE_LIMIT;
@@ -106,68 +106,63 @@ impl Propositions<'_> {
         self.same(self.right(p), self.right(q))
     }
 
-    // Whether an answer of `infer` is a proposition equal to p; else the node that stops it, or this one.
-    pub fn agree(&self, answer: Result<usize, usize>, p: usize, node: usize) -> Result<(), usize>
+    // Whether two propositions are equal; else the node.
+    pub fn agree(&self, p: usize, q: usize, node: usize) -> Result<(), usize>
         requires code_len_bound { (length self.now.code.now ≤ standing) × (length self.now.made.now ≡ node_limit) }
-        requires known { ((r : ℕ) → answer ≡ Ok r → Known self.now.code.now self.now.made.now r)
-            × Known self.now.code.now self.now.made.now p }
-        ensures { Agreed self.now.code.now self.now.made.now answer p node result }
+        requires known { Known self.now.code.now self.now.made.now p × Known self.now.code.now self.now.made.now q }
+        ensures { Agreed self.now.code.now self.now.made.now p q node result }
     {
-        let r = answer?;
-        if self.same(r, p) {
+        if self.same(p, q) {
             return Ok(());
         }
         Err(node)
     }
 
-    // An answer of `infer` that must have a connective: that proposition, or the node that stops it, or this one.
-    pub fn expect(
+    // The proposition, if it has that connective; else the node.
+    pub fn with_connective(
         &self,
-        answer: Result<usize, usize>,
+        p: usize,
         connective: Connective,
         node: usize,
     ) -> Result<usize, usize>
-        requires { (r : ℕ) → answer ≡ Ok r → Space self.now.code.now self.now.made.now r }
-        ensures { Expected self.now.code.now self.now.made.now answer connective node result }
+        requires { Space self.now.code.now self.now.made.now p }
+        ensures { Expected self.now.code.now self.now.made.now p connective node result }
     {
-        let r = answer?;
-        if self.connective(r) == Some(connective) {
-            return Ok(r);
+        if self.connective(p) == Some(connective) {
+            return Ok(p);
         }
         Err(node)
     }
 
-    // The side of a conjunction that is inferred, as the closure finds it; or the node that stops it, or this one.
-    #[tactic(auto, using(crate::proofs::Halves::expected_space))]
+    // The side of a conjunction, as the closure finds it; else the node.
     fn project<F: Fn(usize) -> usize>(
         &self,
-        answer: Result<usize, usize>,
+        p: usize,
         node: usize,
         side: F,
     ) -> Result<usize, usize>
-        requires given { (r : ℕ) → answer ≡ Ok r → Space self.now.code.now self.now.made.now r }
-        requires side { (p : ℕ) → Space self.now.code.now self.now.made.now p → F.pre side p }
-        ensures { Projected self.now.code.now self.now.made.now answer (F.post side) node result }
+        requires given { Space self.now.code.now self.now.made.now p }
+        requires side { F.pre side p }
+        ensures { Projected self.now.code.now self.now.made.now p (F.post side) node result }
     {
-        let whole = self.expect(answer, Connective::And, node)?;
-        Ok(side(whole))
+        self.with_connective(p, Connective::And, node).map(side)
     }
 
-    // The first side of a conjunction that is inferred, or the node that stops it.
-    pub fn first_side(&self, answer: Result<usize, usize>, node: usize) -> Result<usize, usize>
-        requires { (r : ℕ) → answer ≡ Ok r → Space self.now.code.now self.now.made.now r }
-        ensures { Projected self.now.code.now self.now.made.now answer (FirstSide self.now.made.now) node result }
+    // The first side of a conjunction, or the node.
+    pub fn first_side(&self, p: usize, node: usize) -> Result<usize, usize>
+        requires { Space self.now.code.now self.now.made.now p }
+        ensures { Projected self.now.code.now self.now.made.now p (FirstSide self.now.made.now) node result }
     {
-        self.project(answer, node, |whole| self.left(whole))
+        self.project(p, node, |whole| self.left(whole))
     }
 
     // The second side.
-    pub fn second_side(&self, answer: Result<usize, usize>, node: usize) -> Result<usize, usize>
-        requires { (r : ℕ) → answer ≡ Ok r → Space self.now.code.now self.now.made.now r }
-        ensures { Projected self.now.code.now self.now.made.now answer
+    pub fn second_side(&self, p: usize, node: usize) -> Result<usize, usize>
+        requires { Space self.now.code.now self.now.made.now p }
+        ensures { Projected self.now.code.now self.now.made.now p
             (RightOf self.now.code.now self.now.made.now) node result }
     {
-        self.project(answer, node, |whole| self.right(whole))
+        self.project(p, node, |whole| self.right(whole))
     }
 }
 
@@ -193,23 +188,23 @@ pub fn side_of(code: &[u8], p: usize, connective: Connective, node: usize) -> Re
     Err(node)
 }
 
-// Makes a proposition of two, the second as `infer` answers it: its number, or the node that stops the second.
+// Makes a proposition of two in the node's slot, and gives its number.
 #[tactic(auto, unfolding(crate::specs::Standing::slotted))]
 pub fn make(
     made: &mut [Made; NODE_LIMIT],
     node: usize,
     connective: Connective,
     left: usize,
-    right: Result<usize, usize>,
-) -> Result<usize, usize>
-    requires { (node < node_limit) × (left < number_limit) × ((p : ℕ) → right ≡ Ok p → p < number_limit) }
-    ensures { Makes made.old node connective left right made.new result }
+    right: usize,
+) -> usize
+    requires { (node < node_limit) × (left < number_limit) × (right < number_limit) }
+    ensures number { result ≡ standing + node }
+    ensures slot { made.new ≡ slotted made.old node connective left right }
 {
-    let right = right?;
     made[node] = Made {
         connective: Some(connective),
         left: left as u32,
         right: right as u32,
     };
-    Ok(STANDING + node)
+    STANDING + node
 }
