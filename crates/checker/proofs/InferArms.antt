@@ -17,6 +17,7 @@ use Rattle.prefix_code.specs.declared.Connective.TheVariants.{And, Or, Impl}
 use Rattle.proof_term.specs.declared.nodes.Kind.TheVariants as variant
 use Rattle.proof_term.proofs.Views.{number_of_kind}
 use Rattle.proof_term.specs.Records.{field_at, label_of, parameter_label}
+use Rattle.proof_term.specs.Views.{label_of_numbers, parameter_of_numbers}
 use Rattle.prop_numbers.specs.declared.Made.{Made}
 use Rattle.prop_numbers.specs.Standing.{standing, node_limit, name_space, Stood, Known, Space, Kept, connective_of, left_of, RightOf, slotted}
 use Rattle.prop_numbers.specs.Answering.{Expected, FirstSide, Projected, Agreed}
@@ -26,11 +27,11 @@ use Rattle.prop_numbers.proofs.Halves.{expected_same}
 use Rattle.prop_numbers.proofs.Fronts.{dec_connective}
 use Rattle.checker.specs.Asking.{OfKind, label_prop, term_of, Few, NameHeld, Well, Judgeable}
 use Rattle.checker.specs.Judging.{InfersAs, ChecksAs, Inferred, Checked}
-use Rattle.checker.specs.Helping.{After, Bound, Found, Ascribed, Annotated}
+use Rattle.checker.specs.Helping.{After, Bound, Found, label_place}
 use Rattle.checker.proofs.Forms.{One, Two, fst_view, snd_view, function_view, application_view, ascription_view, pair_view, ident_is, unit_is, inl_view, inr_view, abort_view, let_is, sorry_is}
 use Rattle.checker.proofs.Answers.{not_both, derives}
 use Rattle.checker.proofs.Sides.{Unopened, Opening, uninferred, unopened, opening, unopened_at, opening_at}
-use Rattle.checker.proofs.Labels.{no_label, a_datatype, a_proposition, some_label}
+use Rattle.checker.proofs.Labels.{no_label, a_datatype, a_proposition, some_label, placed_none, placed_some, placed_datatype, placed_proposition}
 use Rattle.checker.proofs.Inferring.{ident_answer, unit_answer, let_stops, sorry_stops, inl_stops, inr_stops, abort_stops, fst_stops, snd_stops, fst_gives, snd_gives, argument_stands, application_stops, application_fails, application_gives, ascription_datatype, ascription_fails, ascription_gives, function_none, function_datatype, function_stops, function_gives, pair_first, pair_second, pair_gives, case_stops, case_left, case_right, case_gives, case_differ}
 use Rattle.checker.proofs.Steps.{Call, call, node_low, bound_in, restored, known_answer, answer_space, inferred_at, infers_under, checks_under}
 use Rattle.checker.proofs.Parts.{first_call, first_few, first_kept, second_is, second_room, second_call, both_kept}
@@ -168,6 +169,14 @@ module _ {records code : List ℕ} {stride : ℕ} {scope : List (Option ℕ)} {m
                 application_pass ok =
                     inferred_at application_whole (application_gives j.ends.space (omega (arith, j.room, application_is.size)) opened al sl application_answer ok (rw (en labels) at c.kept)) application_same application_kept
 
+  -- A label that there is.
+  module _ {found : Result ℕ ℕ} (x : found ≡ label_place stride (Some (label_of_numbers (field_at records m 3) (field_at records m 4))) n) where
+    label_datatype : field_at records m 3 ≡ 2 → found ≡ Err n
+    label_datatype same = x ∙ placed_datatype stride (field_at records m 3) (field_at records m 4) n same
+
+    label_proposition : (field_at records m 3 ≡ 2 → ⊥) → found ≡ Ok (stride * field_at records m 4)
+    label_proposition other = x ∙ placed_proposition stride (field_at records m 3) (field_at records m 4) n other
+
   -- An ascription.
   module _ (e : OfKind records m variant.TypeAscription) where
     ascription_is : One records code stride m a (λ t. TypeAscription t (label_of (label_prop code stride) (field_at records m 3) (field_at records m 4)))
@@ -176,21 +185,21 @@ module _ {records code : List ℕ} {stride : ℕ} {scope : List (Option ℕ)} {m
     pub ascription_call : Call records code stride scope mades m a (n + 1)
     ascription_call = only_call ascription_is
 
-    module _ {found : Result ℕ ℕ} (x : Ascribed records stride m n found) where
+    module _ {found : Result ℕ ℕ} (x : found ≡ label_place stride (Some (label_of_numbers (field_at records m 3) (field_at records m 4))) n) where
       pub ascription_stop : {k : ℕ} → found ≡ Err k → At scope mades (Err k)
       ascription_stop {k} l = by_cases (ℕ_discrete (field_at records m 3) 2)
           (λ same.
-          let here : n ≡ k = cc (x.datatype same) in
+          let here : n ≡ k = cc (label_datatype x same) in
           rw (← here)
           (inferred_at (ascription_is.is ∙ ap (λ l. TypeAscription (term a) l) (a_datatype (label_prop code stride) (field_at records m 3) (field_at records m 4) same)) (ascription_datatype _) refl kept_all))
-          (λ other. absurd (not_both (x.offset other).0 l))
+          (λ other. absurd (not_both (label_proposition x other) l))
 
       module _ {label : ℕ} (l : found ≡ Ok label) where
         no_datatype : field_at records m 3 ≡ 2 → ⊥
-        no_datatype same = not_both l (x.datatype same)
+        no_datatype same = not_both l (label_datatype x same)
 
         label_is : label ≡ stride * field_at records m 4
-        label_is = cc (x.offset no_datatype).0
+        label_is = cc (label_proposition x no_datatype)
 
         pub ascription_stood : Stood code label
         ascription_stood = rw label_is (own.label.ascribed (number_of_kind e (λ u. cc)) no_datatype)
@@ -217,31 +226,37 @@ module _ {records code : List ℕ} {stride : ℕ} {scope : List (Option ℕ)} {m
     pub function_name : NameHeld records m 2
     function_name = record { held = j.held; number = omega arith; below = own.parameter (number_of_kind e (λ u. cc)) }
 
-    module _ {found : Result ℕ ℕ} (x : Annotated records stride m n found) where
+    module _ {found : Result ℕ ℕ} (x : found ≡ label_place stride (parameter_of_numbers (field_at records m 3) (field_at records m 4)) n) where
+      annotated_none : field_at records m 3 ≡ 0 → found ≡ Err n
+      annotated_none absent = x ∙ placed_none stride (field_at records m 3) (field_at records m 4) n absent
+
+      annotated_some : (field_at records m 3 ≡ 0 → ⊥) → found ≡ label_place stride (Some (label_of_numbers (field_at records m 3) (field_at records m 4))) n
+      annotated_some there = x ∙ placed_some stride (field_at records m 3) (field_at records m 4) n there
+
       pub function_stop : {k : ℕ} → found ≡ Err k → At scope mades (Err k)
       function_stop {k} l = by_cases (ℕ_discrete (field_at records m 3) 0)
           (λ absent.
-          let here : n ≡ k = cc (x.none absent) in
+          let here : n ≡ k = cc (annotated_none absent) in
           rw (← here)
           (inferred_at (function_is.is ∙ ap (λ l. Function (field_at records m 2) l (term a)) (no_label (label_prop code stride) (field_at records m 3) (field_at records m 4) absent)) function_none refl kept_all))
           (λ there. by_cases (ℕ_discrete (field_at records m 3) 2)
           (λ same.
-          let here : n ≡ k = cc ((x.some there).datatype same) in
+          let here : n ≡ k = cc (label_datatype (annotated_some there) same) in
           rw (← here)
           (inferred_at (function_is.is ∙ ap (λ l. Function (field_at records m 2) l (term a))
           (some_label (label_prop code stride) (field_at records m 3) (field_at records m 4) there ∙ ap Some (a_datatype (label_prop code stride) (field_at records m 3) (field_at records m 4) same)))
           (function_datatype _) refl kept_all))
-          (λ other. absurd (not_both ((x.some there).offset other).0 l)))
+          (λ other. absurd (not_both (label_proposition (annotated_some there) other) l)))
 
       module _ {label : ℕ} (l : found ≡ Ok label) where
         there : field_at records m 3 ≡ 0 → ⊥
-        there absent = not_both l (x.none absent)
+        there absent = not_both l (annotated_none absent)
 
         no_function_datatype : field_at records m 3 ≡ 2 → ⊥
-        no_function_datatype same = not_both l ((x.some there).datatype same)
+        no_function_datatype same = not_both l (label_datatype (annotated_some there) same)
 
         function_label_is : label ≡ stride * field_at records m 4
-        function_label_is = cc ((x.some there).offset no_function_datatype).0
+        function_label_is = cc (label_proposition (annotated_some there) no_function_datatype)
 
         pub function_stood : Stood code label
         function_stood = rw function_label_is (own.label.parameter (number_of_kind e (λ u. cc)) there no_function_datatype)

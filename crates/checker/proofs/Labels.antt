@@ -3,7 +3,7 @@ use Prim.Native.Nat.{ℕ, ◌+◌, ◌*◌, ◌≤◌, ◌<◌}
 use mathlib.Core.Path.{◌≡◌, refl, sym, ap, ◌∙◌}
 use mathlib.Core.Logic.{by_cases}
 use mathlib.Core.Bool.{Bool, true, false}
-use Rattle.std.specs.Prelude.{None, Some}
+use Rattle.std.specs.Prelude.{None, Some, Ok, Err}
 use mathlib.Core.List.{List}
 use native.Mathlib.Omega.{arith}
 use native.Mathlib.Decide.{ℕ_discrete}
@@ -19,7 +19,8 @@ use Rattle.proof_term.specs.Records.{field_at, label_of, parameter_label}
 use Rattle.prop_numbers.specs.Standing.{number_limit, name_space, Distinct}
 use Rattle.prop_numbers.specs.Answering.{NoSide}
 use Rattle.checker.specs.Asking.{label_prop}
-use Rattle.checker.specs.Helping.{LabelTested, BodyDiffers}
+use Rattle.checker.specs.Helping.{LabelTested, BodyDiffers, label_place}
+use Rattle.proof_term.specs.Views.{label_of_numbers, parameter_of_numbers}
 
 module _ (props : ℕ → Prop ℕ) (kind number : ℕ) where
   pub no_label : kind ≡ 0 → parameter_label props kind number ≡ None
@@ -37,6 +38,24 @@ module _ (props : ℕ → Prop ℕ) (kind number : ℕ) where
   pub some_label : (kind ≡ 0 → ⊥) → parameter_label props kind number ≡ Some (label_of props kind number)
   unfolding parameter_label
   some_label h = rw (ne_eqb kind 0 h)
+
+-- Where it stands, by the two numbers of its record.
+module _ (stride kind number node : ℕ) where
+  pub placed_none : kind ≡ 0 → label_place stride (parameter_of_numbers kind number) node ≡ Err node
+  unfolding label_place parameter_of_numbers
+  placed_none e = rw (eq-eqb kind 0 e)
+
+  pub placed_some : (kind ≡ 0 → ⊥) → label_place stride (parameter_of_numbers kind number) node ≡ label_place stride (Some (label_of_numbers kind number)) node
+  unfolding parameter_of_numbers
+  placed_some h = rw (ne_eqb kind 0 h)
+
+  pub placed_datatype : kind ≡ 2 → label_place stride (Some (label_of_numbers kind number)) node ≡ Err node
+  unfolding label_place label_of_numbers
+  placed_datatype e = rw (eq-eqb kind 2 e)
+
+  pub placed_proposition : (kind ≡ 2 → ⊥) → label_place stride (Some (label_of_numbers kind number)) node ≡ Ok (stride * number)
+  unfolding label_place label_of_numbers
+  placed_proposition h = rw (ne_eqb kind 2 h)
 
 module _ {records code : List ℕ} {stride m p form : ℕ} where
   pub tested_none : form ≡ field_at records m 3 → form ≡ 0 → LabelTested records code stride m p true

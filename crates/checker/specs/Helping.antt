@@ -1,5 +1,5 @@
 -- What the helpers of the two functions say.
-use Rattle.std.specs.Prelude.{ℕ, ◌+◌, ◌*◌, ◌<◌, ◌≡◌, Bool, true, false, List, get_or, set, Option, None, Some, Result, Ok, Err, MatchResult}
+use Rattle.std.specs.Prelude.{ℕ, ◌+◌, ◌*◌, ◌≡◌, Bool, true, false, List, get_or, set, Option, None, Some, Result, Ok, Err, MatchResult}
 use Rattle.definitions.specs.Name.{Name}
 use Rattle.definitions.specs.Prop.{Prop, impl, connective_byte, rename_prop}
 use Rattle.definitions.specs.Term.{rename_parameter_label}
@@ -8,7 +8,9 @@ use Rattle.definitions.specs.Checker.{ensure, label_is}
 use Rattle.prefix_code.specs.PropAt.{prop_at}
 use Rattle.prefix_code.specs.declared.Connective.TheVariants.{Impl}
 use Rattle.proof_term.specs.Records.{field_at, parameter_label, term_at}
-use Rattle.prop_numbers.specs.Standing.{number_limit, name_space, Distinct}
+use Rattle.proof_term.specs.declared.nodes.Label.{Label}
+use Rattle.proof_term.specs.declared.nodes.Label.TheVariants.{Proposition, Datatype}
+use Rattle.prop_numbers.specs.Standing.{name_space, Distinct}
 use Rattle.prop_numbers.specs.Answering.{Side}
 use Rattle.checker.specs.Asking.{label_prop}
 
@@ -46,12 +48,8 @@ pub record Found (bound : Option ℕ) (node : ℕ) (r : Result ℕ ℕ) : Type 0
   pub none : bound ≡ None → r ≡ Err node
   pub some : (p : ℕ) → bound ≡ Some p → r ≡ Ok p
 
--- where a label of record m stands, or the node where it is a datatype
-pub record Ascribed (records : List ℕ) (stride m node : ℕ) (r : Result ℕ ℕ) : Type 0 where
-  pub datatype : field_at records m 3 ≡ 2 → r ≡ Err node
-  pub offset : (field_at records m 3 ≡ 2 → ⊥) → (r ≡ Ok (stride * field_at records m 4)) × (stride * field_at records m 4 < number_limit)
-
--- the same where there may be none
-pub record Annotated (records : List ℕ) (stride m node : ℕ) (r : Result ℕ ℕ) : Type 0 where
-  pub none : field_at records m 3 ≡ 0 → r ≡ Err node
-  pub some : (field_at records m 3 ≡ 0 → ⊥) → Ascribed records stride m node r
+-- where a label stands, if there is one and it is a proposition; else the node
+unfoldable pub label_place : ℕ → Option Label → ℕ → Result ℕ ℕ
+label_place stride None node = Err node
+label_place stride (Some (Datatype name)) node = Err node
+label_place stride (Some (Proposition number)) node = Ok (stride * number)

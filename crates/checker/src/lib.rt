@@ -3,13 +3,13 @@
 // numbers that are equal where their bytes are.
 #![tactic(auto)]
 
-ghost use Rattle.std.specs.Prelude.{◌≡◌, ℕ, ◌+◌, ◌*◌, ◌≤◌, ◌<◌, length, get_or, set, None};
+ghost use Rattle.std.specs.Prelude.{◌≡◌, ℕ, ◌+◌, ◌-◌, ◌*◌, ◌≤◌, ◌<◌, length, get_or, set, None};
 ghost use Rattle.proof_term.specs.Records.{record_size, field_at};
 ghost use Rattle.proof_term.specs.declared.nodes.Kind.TheVariants.{Function, Pair, Application, Case};
 ghost use Rattle.prop_numbers.specs.Standing.{standing, name_space, Stood};
 ghost use Rattle.checker.specs.Asking.{Few, NameHeld, LabelHeld, OfKind, JudgeableTerm};
 ghost use Rattle.checker.specs.Judging.{InferredTerm, CheckedTerm};
-ghost use Rattle.checker.specs.Helping.{After, Found, Bound, Ascribed, Annotated, BodySide};
+ghost use Rattle.checker.specs.Helping.{After, Found, Bound, label_place, BodySide};
 
 use prefix_code::{Connective, known_end};
 use proof_term::{Kind, Label, NODE_LIMIT, field, kind_at, label_at, parameter_at};
@@ -126,28 +126,32 @@ impl<'a> Terms<'a> {
         scope[name] = hidden;
     }
 
-    // Where the label of record m stands, an ascription's or a function's, if it is a proposition; else the node.
-    #[tactic(auto, using(proof_term::proofs::Views::datatype_read, proof_term::proofs::Views::proposition_read, crate::proofs::Labels::short_stride))]
-    fn ascribed(&self, m: usize, node: usize) -> Result<usize, usize>
-        requires { (record_size * (m + 1) ≤ length self.now.records.now) × (self.now.stride ≤ 2) }
-        ensures { Ascribed self.now.records.now self.now.stride m node result }
+    // Where a label stands, if there is one and it is a proposition; else the node.
+    #[tactic(auto, unfolding(crate::specs::Helping::label_place), using(crate::proofs::Labels::short_stride))]
+    fn label_place(&self, label: Option<Label>, node: usize) -> Result<usize, usize>
+        requires { self.now.stride ≤ 2 }
+        ensures { result ≡ label_place self.now.stride label node }
     {
-        match label_at(self.records, m) {
-            Label::Datatype(_) => Err(node),
-            Label::Proposition(number) => Ok(self.stride * usize::from(number)),
+        match label {
+            Some(Label::Proposition(number)) => Ok(self.stride * usize::from(number)),
+            Some(Label::Datatype(_)) | None => Err(node),
         }
     }
 
-    // The same for a function's label, which may be absent.
-    #[tactic(auto, using(proof_term::proofs::Views::no_parameter, proof_term::proofs::Views::parameter_read))]
-    fn annotated(&self, m: usize, node: usize) -> Result<usize, usize>
-        requires { (record_size * (m + 1) ≤ length self.now.records.now) × (self.now.stride ≤ 2) }
-        ensures { Annotated self.now.records.now self.now.stride m node result }
+    // ⊥ stands last in the code.
+    fn bottom(&self) -> usize
+        requires { 2 ≤ length self.now.code.now }
+        ensures { result ≡ length self.now.code.now - 1 }
     {
-        match parameter_at(self.records, m) {
-            None => Err(node),
-            Some(_) => self.ascribed(m, node),
-        }
+        self.code.len() - 1
+    }
+
+    // ⊤ stands before it.
+    fn top(&self) -> usize
+        requires { 2 ≤ length self.now.code.now }
+        ensures { result ≡ length self.now.code.now - 2 }
+    {
+        self.code.len() - 2
     }
 
     // Does the term of record m, a node of that number, check against the proposition at p?
@@ -170,7 +174,7 @@ impl<'a> Terms<'a> {
                 self.check(state, first, node + 1, side)
             }
             Kind::Case => self.check_case(state, m, node, p),
-            Kind::Abort => self.check(state, first, node + 1, self.code.len() - 1),
+            Kind::Abort => self.check(state, first, node + 1, self.bottom()),
             Kind::Sorry => Ok(()),
             Kind::LetIn => Err(node),
             Kind::Ident
@@ -268,14 +272,14 @@ impl<'a> Terms<'a> {
             }
             Kind::Application => self.infer_application(state, m, node),
             Kind::TypeAscription => {
-                let label = self.ascribed(m, node)?;
+                let label = self.label_place(Some(label_at(self.records, m)), node)?;
                 self.check(state, first, node + 1, label)?;
                 Ok(label)
             }
             Kind::Function => self.infer_function(state, m, node),
             Kind::Pair => self.infer_pair(state, m, node),
             Kind::Case => self.infer_case(state, m, node),
-            Kind::Unit => Ok(self.code.len() - 2),
+            Kind::Unit => Ok(self.top()),
             Kind::LetIn | Kind::OrLeft | Kind::OrRight | Kind::Abort | Kind::Sorry => Err(node),
         }
     }
@@ -307,7 +311,7 @@ impl<'a> Terms<'a> {
         ensures { InferredTerm self.now m node state.old state.new result }
     {
         let first = field(self.records, m, FIRST);
-        let label = self.annotated(m, node)?;
+        let label = self.label_place(parameter_at(self.records, m), node)?;
         let hidden = self.bind(&mut state.scope, m, NAME, label);
         let r = self.infer(state, first, node + 1);
         self.unbind(&mut state.scope, m, NAME, hidden);

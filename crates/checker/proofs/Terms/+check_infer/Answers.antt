@@ -42,7 +42,7 @@ check-returns-in_ok-side-in-OrRight t c =
 pub check-check-requires-in-Abort : goal.check-check-requires-in-Abort
 check-check-requires-in-Abort t c =
     let call = arms.abort_call c.requires.0 c.requires.1 c.field-first.ensures.0 (sym c.kind_at-kind.ensures ∙ c.in-Abort.is) in
-    (omega (arith, c.decreases, call.less), (call.ready, c.requires.0.ends.bottom))
+    (omega (arith, c.decreases, call.less), (call.ready, rw c.bottom.ensures c.requires.0.ends.bottom))
 
 pub check-returns-in_err-r-in-Ident : goal.check-returns-in_err-r-in-Ident
 check-returns-in_err-r-in-Ident t c =
@@ -71,7 +71,7 @@ pub check-side_of-requires-in-OrRight : goal.check-side_of-requires-in-OrRight
 check-side_of-requires-in-OrRight t c = (c.requires.1, c.requires.0.ends.space)
 
 pub check-returns-in-Abort : goal.check-returns-in-Abort
-check-returns-in-Abort t c = arms.abort_done c.requires.0 c.requires.1 c.field-first.ensures.0 (sym c.kind_at-kind.ensures ∙ c.in-Abort.is) c.check-in-Abort.ensures
+check-returns-in-Abort t c = arms.abort_done c.requires.0 c.requires.1 c.field-first.ensures.0 (sym c.kind_at-kind.ensures ∙ c.in-Abort.is) (rw c.bottom.ensures at c.check-in-Abort.ensures)
 
 pub check-returns-in-Sorry : goal.check-returns-in-Sorry
 check-returns-in-Sorry t c = arms.sorry_done c.requires.0 c.requires.1 c.field-first.ensures.0 (sym c.kind_at-kind.ensures ∙ c.in-Sorry.is)
@@ -289,28 +289,28 @@ infer-returns-in_ok-r-in-ProjectSnd t c =
 pub infer-returns-in_err-label-in-TypeAscription : goal.infer-returns-in_err-label-in-TypeAscription
 infer-returns-in_err-label-in-TypeAscription t c =
     rw (passed_on c.from_residual-in_err-label-in-TypeAscription.ensures)
-    (inferring.ascription_stop c.requires c.field-first.ensures.0 (sym c.kind_at-kind.ensures ∙ c.in-TypeAscription.is) c.ascribed.ensures c.in_err-label-in-TypeAscription.was)
+    (inferring.ascription_stop c.requires c.field-first.ensures.0 (sym c.kind_at-kind.ensures ∙ c.in-TypeAscription.is) (rw c.label_at.ensures at c.label_place.ensures) c.in_err-label-in-TypeAscription.was)
 
 pub infer-check-requires : goal.infer-check-requires
 infer-check-requires t c =
     let e = (sym c.kind_at-kind.ensures ∙ c.in-TypeAscription.is) in
     let call = inferring.ascription_call c.requires c.field-first.ensures.0 e in
-    (omega (arith, c.decreases, call.less), (call.ready, inferring.ascription_stood c.requires c.field-first.ensures.0 e c.ascribed.ensures c.in_ok-label-in-TypeAscription.was))
+    (omega (arith, c.decreases, call.less), (call.ready, inferring.ascription_stood c.requires c.field-first.ensures.0 e (rw c.label_at.ensures at c.label_place.ensures) c.in_ok-label-in-TypeAscription.was))
 
 pub infer-returns-in_err-check-in-TypeAscription : goal.infer-returns-in_err-check-in-TypeAscription
 infer-returns-in_err-check-in-TypeAscription t c =
     rw (passed_on c.from_residual-in_err-check-in-TypeAscription.ensures)
-    (inferring.ascription_fail c.requires c.field-first.ensures.0 (sym c.kind_at-kind.ensures ∙ c.in-TypeAscription.is) c.ascribed.ensures c.in_ok-label-in-TypeAscription.was c.check.ensures c.in_err-check-in-TypeAscription.was)
+    (inferring.ascription_fail c.requires c.field-first.ensures.0 (sym c.kind_at-kind.ensures ∙ c.in-TypeAscription.is) (rw c.label_at.ensures at c.label_place.ensures) c.in_ok-label-in-TypeAscription.was c.check.ensures c.in_err-check-in-TypeAscription.was)
 
 pub infer-returns-in_ok-check-in-TypeAscription : goal.infer-returns-in_ok-check-in-TypeAscription
 infer-returns-in_ok-check-in-TypeAscription t c =
-    inferring.ascription_pass c.requires c.field-first.ensures.0 (sym c.kind_at-kind.ensures ∙ c.in-TypeAscription.is) c.ascribed.ensures c.in_ok-label-in-TypeAscription.was c.check.ensures c.in_ok-check-in-TypeAscription.was
+    inferring.ascription_pass c.requires c.field-first.ensures.0 (sym c.kind_at-kind.ensures ∙ c.in-TypeAscription.is) (rw c.label_at.ensures at c.label_place.ensures) c.in_ok-label-in-TypeAscription.was c.check.ensures c.in_ok-check-in-TypeAscription.was
 
-pub infer-ascribed-requires : goal.infer-ascribed-requires
-infer-ascribed-requires t c = (c.requires.held, (c.requires.well c.args.m (omega arith)).label.short)
+pub infer-label_place-requires : goal.infer-label_place-requires
+infer-label_place-requires t c = (c.requires.well c.args.m (omega arith)).label.short
 
 pub infer-returns-in-Unit : goal.infer-returns-in-Unit
-infer-returns-in-Unit t c = inferring.unit_done c.requires c.field-first.ensures.0 (sym c.kind_at-kind.ensures ∙ c.in-Unit.is)
+infer-returns-in-Unit t c = rw c.top.ensures (inferring.unit_done c.requires c.field-first.ensures.0 (sym c.kind_at-kind.ensures ∙ c.in-Unit.is))
 
 pub infer-returns-in-LetIn : goal.infer-returns-in-LetIn
 infer-returns-in-LetIn t c = inferring.no_rule c.requires c.field-first.ensures.0 (rw c.kind_at-kind.ensures at c.in-LetIn.is)
@@ -379,16 +379,16 @@ infer_application-returns t c =
 pub infer_function-returns-in_err-label : goal.infer_function-returns-in_err-label
 infer_function-returns-in_err-label t c =
     rw (passed_on c.from_residual.ensures)
-    (inferring.function_stop c.requires.ready c.field-first.ensures.0 c.requires.kind c.annotated.ensures c.in_err-label.was)
+    (inferring.function_stop c.requires.ready c.field-first.ensures.0 c.requires.kind (rw c.parameter_at.ensures at c.label_place.ensures) c.in_err-label.was)
 
 pub infer_function-bind-hidden-requires : goal.infer_function-bind-hidden-requires
 infer_function-bind-hidden-requires t c =
     let e = c.requires.kind in
-    (inferring.function_name c.requires.ready c.field-first.ensures.0 e, (inferring.function_stood c.requires.ready c.field-first.ensures.0 e c.annotated.ensures c.in_ok-label.was).low)
+    (inferring.function_name c.requires.ready c.field-first.ensures.0 e, (inferring.function_stood c.requires.ready c.field-first.ensures.0 e (rw c.parameter_at.ensures at c.label_place.ensures) c.in_ok-label.was).low)
 
 pub infer_function-infer-r-requires : goal.infer_function-infer-r-requires
 infer_function-infer-r-requires t c =
-    let call = inferring.function_call c.requires.ready c.field-first.ensures.0 c.requires.kind c.annotated.ensures c.in_ok-label.was c.bind-hidden.ensures in
+    let call = inferring.function_call c.requires.ready c.field-first.ensures.0 c.requires.kind (rw c.parameter_at.ensures at c.label_place.ensures) c.in_ok-label.was c.bind-hidden.ensures in
     (omega (arith, c.decreases, call.less), call.ready)
 
 pub infer_function-unbind-requires : goal.infer_function-unbind-requires
@@ -397,22 +397,22 @@ infer_function-unbind-requires t c = inferring.function_name c.requires.ready c.
 pub infer_function-returns-in_err-r : goal.infer_function-returns-in_err-r
 infer_function-returns-in_err-r t c =
     rw (passed_on c.from_residual-in_err-r.ensures)
-    (inferring.function_body_stop c.requires.ready c.field-first.ensures.0 c.requires.kind c.annotated.ensures c.in_ok-label.was c.bind-hidden.ensures c.infer-r.ensures c.unbind.ensures c.in_err-r.was)
+    (inferring.function_body_stop c.requires.ready c.field-first.ensures.0 c.requires.kind (rw c.parameter_at.ensures at c.label_place.ensures) c.in_ok-label.was c.bind-hidden.ensures c.infer-r.ensures c.unbind.ensures c.in_err-r.was)
 
 pub infer_function-make-requires : goal.infer_function-make-requires
 infer_function-make-requires t c = (
   node_low c.requires.ready,
-  stood_low (inferring.function_stood c.requires.ready c.field-first.ensures.0 c.requires.kind c.annotated.ensures c.in_ok-label.was),
+  stood_low (inferring.function_stood c.requires.ready c.field-first.ensures.0 c.requires.kind (rw c.parameter_at.ensures at c.label_place.ensures) c.in_ok-label.was),
   (derives c.infer-r.ensures.answer c.in_ok-r.was).low,
 )
 
 pub infer_function-returns : goal.infer_function-returns
 infer_function-returns t c =
-    inferring.function_done c.requires.ready c.field-first.ensures.0 c.requires.kind c.annotated.ensures c.in_ok-label.was c.bind-hidden.ensures c.infer-r.ensures c.unbind.ensures c.in_ok-r.was
+    inferring.function_done c.requires.ready c.field-first.ensures.0 c.requires.kind (rw c.parameter_at.ensures at c.label_place.ensures) c.in_ok-label.was c.bind-hidden.ensures c.infer-r.ensures c.unbind.ensures c.in_ok-r.was
     c.make.ensures.number c.make.ensures.slot
 
-pub infer_function-annotated-requires : goal.infer_function-annotated-requires
-infer_function-annotated-requires t c = (c.requires.ready.held, (c.requires.ready.well c.args.m (omega arith)).label.short)
+pub infer_function-label_place-requires : goal.infer_function-label_place-requires
+infer_function-label_place-requires t c = (c.requires.ready.well c.args.m (omega arith)).label.short
 
 -- A pair.
 pub infer_pair-infer-requires : goal.infer_pair-infer-requires
