@@ -22,7 +22,7 @@ use Rattle.prop_numbers.proofs.Reps.{kept_wider, kept_then}
 use Rattle.prop_numbers.proofs.Fronts.{byte_of}
 use Rattle.prop_numbers.proofs.Halves.{Halves, half}
 use Rattle.checker.specs.Scope.{Entries}
-use Rattle.checker.specs.Asking.{label_prop, OfKind, term_of, Few, NameHeld, Well, Judgeable}
+use Rattle.checker.specs.Asking.{label_prop, OfKind, term_of, Few, Well, Judgeable}
 use Rattle.checker.specs.Judging.{Inferred}
 use Rattle.checker.specs.Helping.{After, Bound}
 use Rattle.checker.proofs.Forms.{Three, case_view}
@@ -45,11 +45,11 @@ module _ {records code : List ℕ} {stride : ℕ} {scope : List (Option ℕ)} {m
   pub view : Three records code stride m a (field_at records m 2) (field_at records m 3) (λ h l r. Case h (field_at records m 4) l (field_at records m 5) r)
   view = case_view own ea refl refl e
 
-  pub left_name : NameHeld records m 4
-  left_name = record { held = j.held; number = omega arith; below = own.left (number_of_kind e (λ u. cc)) }
+  pub left_name : field_at records m 4 < name_space
+  left_name = own.left (number_of_kind e (λ u. cc))
 
-  pub right_name : NameHeld records m 5
-  right_name = record { held = j.held; number = omega arith; below = own.right (number_of_kind e (λ u. cc)) }
+  pub right_name : field_at records m 5 < name_space
+  right_name = own.right (number_of_kind e (λ u. cc))
 
   pub head_call : Call records code stride scope mades m a (n + 1)
   head_call = call j view.first j.entries j.slots (omega (arith, j.room, view.size))
@@ -97,15 +97,15 @@ module _ {records code : List ℕ} {stride : ℕ} {scope : List (Option ℕ)} {m
           pub left_few : Few records b next
           left_few = few j next left_less (omega (arith, left_room, j.room))
 
-          module _ {bound : List (Option ℕ)} {hidden : Option ℕ} (bd : Bound scope₁ (field_at records m 4) (h + 1) bound hidden) where
+          module _ {y : ℕ} (ey : y ≡ field_at records m 4) {bound : List (Option ℕ)} {hidden : Option ℕ} (bd : Bound scope₁ y (h + 1) bound hidden) where
             pub left_call : Call records code stride bound mades₁ m b next
-            left_call = call j left_less (bound_in bd left_name.below entries left_stood) (i.kept.long ∙ j.slots) (omega (arith, left_room, j.room))
+            left_call = call j left_less (bound_in bd (rw ey left_name) entries left_stood) (i.kept.long ∙ j.slots) (omega (arith, left_room, j.room))
 
             -- Once its binder is taken off again:
             module _ {called : List (Option ℕ)} {mades₂ : List Made} {back : List (Option ℕ)} (s : called ≡ bound) (kept : Kept next (next + nodes (term b)) mades₁ mades₂)
-                (off : back ≡ set called (field_at records m 4) hidden) where
+                (off : back ≡ set called y hidden) where
               pub left_back : back ≡ scope
-              left_back = restored bd left_name.below entries s off ∙ i.same
+              left_back = restored bd (rw ey left_name) entries s off ∙ i.same
 
               -- all that was made so far, within the term's nodes
               pub left_kept : Kept n (n + nodes (term m)) mades mades₂
@@ -114,7 +114,7 @@ module _ {records code : List ℕ} {stride : ℕ} {scope : List (Option ℕ)} {m
                   (kept_wider n (n + nodes (term m)) (rw (en labels) (omega arith)) left_room kept)
 
               pub left_under : called ≡ set scope (field_at records m 4) (Some (h + 1))
-              left_under = s ∙ bd.bound ∙ ap (λ (l : List (Option ℕ)). set l (field_at records m 4) (Some (h + 1))) i.same
+              left_under = rw (← ey) (s ∙ bd.bound ∙ ap (λ (l : List (Option ℕ)). set l y (Some (h + 1))) i.same)
 
               -- The right branch likewise:
               module _ {c last side : ℕ} (ec : c ≡ field_at records m 3) (el : After records b next last) (scanned : Scanned name_space code (h + 1) side) where
@@ -127,16 +127,16 @@ module _ {records code : List ℕ} {stride : ℕ} {scope : List (Option ℕ)} {m
                 entries₂ : Entries code back
                 entries₂ = rw left_back j.entries
 
-                module _ {bound₂ : List (Option ℕ)} {hidden₂ : Option ℕ} (bd₂ : Bound back (field_at records m 5) side bound₂ hidden₂) where
+                module _ {z : ℕ} (ez : z ≡ field_at records m 5) {bound₂ : List (Option ℕ)} {hidden₂ : Option ℕ} (bd₂ : Bound back z side bound₂ hidden₂) where
                   pub right_call : Call records code stride bound₂ mades₂ m c last
-                  right_call = call j right_less (bound_in bd₂ right_name.below entries₂ (sides scanned).right) (kept.long ∙ i.kept.long ∙ j.slots)
+                  right_call = call j right_less (bound_in bd₂ (rw ez right_name) entries₂ (sides scanned).right) (kept.long ∙ i.kept.long ∙ j.slots)
                       (omega (arith, right_room, j.room))
 
                   pub right_under : {called₂ : List (Option ℕ)} → called₂ ≡ bound₂ → called₂ ≡ set scope (field_at records m 5) (Some side)
-                  right_under s₂ = s₂ ∙ bd₂.bound ∙ ap (λ (l : List (Option ℕ)). set l (field_at records m 5) (Some side)) left_back
+                  right_under s₂ = rw (← ez) (s₂ ∙ bd₂.bound ∙ ap (λ (l : List (Option ℕ)). set l z (Some side)) left_back)
 
-                  pub right_back : {called₂ back₂ : List (Option ℕ)} → called₂ ≡ bound₂ → back₂ ≡ set called₂ (field_at records m 5) hidden₂ → back₂ ≡ scope
-                  right_back s₂ off₂ = restored bd₂ right_name.below entries₂ s₂ off₂ ∙ left_back
+                  pub right_back : {called₂ back₂ : List (Option ℕ)} → called₂ ≡ bound₂ → back₂ ≡ set called₂ z hidden₂ → back₂ ≡ scope
+                  right_back s₂ off₂ = restored bd₂ (rw ez right_name) entries₂ s₂ off₂ ∙ left_back
 
                   pub right_kept : {mades₃ : List Made} → Kept last (last + nodes (term c)) mades₂ mades₃ → Kept n (n + nodes (term m)) mades mades₃
                   right_kept more = kept_then left_kept (kept_wider n (n + nodes (term m)) (rw (el labels, en labels) (omega arith)) right_room more)

@@ -1,5 +1,5 @@
 -- The arms of `check`, call by call: what each call may ask, and what its answer comes to.
-use Prim.Native.Nat.{ℕ, ◌+◌, ◌-◌}
+use Prim.Native.Nat.{ℕ, ◌+◌, ◌-◌, ◌<◌}
 use mathlib.Core.Path.{◌≡◌, refl, sym, ap, ◌∙◌}
 use mathlib.Core.Logic.{by_cases}
 use mathlib.Core.Bool.{Bool, true, false, cond}
@@ -21,7 +21,7 @@ use Rattle.prop_numbers.specs.Standing.{name_space, Stood, Known}
 use Rattle.prop_numbers.specs.Answering.{Side, NoSide, Expected, Agreed}
 use Rattle.prop_numbers.proofs.Reps.{kept_all, kept_wider}
 use Rattle.prop_numbers.proofs.Halves.{Halves, half}
-use Rattle.checker.specs.Asking.{OfKind, label_prop, term_of, Few, NameHeld, Well, Judgeable}
+use Rattle.checker.specs.Asking.{OfKind, label_prop, term_of, Few, Well, Judgeable}
 use Rattle.checker.specs.Judging.{ChecksAs, Inferred, Checked}
 use Rattle.checker.specs.Helping.{After, Bound, BodyFits, BodyDiffers}
 use Rattle.checker.proofs.Forms.{One, Two, function_view, pair_view, inl_view, inr_view, abort_view, sorry_is, let_is}
@@ -50,8 +50,8 @@ module _ {records code : List ℕ} {stride : ℕ} {scope : List (Option ℕ)} {m
     function_is : One records code stride m a (Function (field_at records m 2) (parameter_label (label_prop code stride) (field_at records m 3) (field_at records m 4)))
     function_is = function_view own ea e
 
-    pub function_name : NameHeld records m 2
-    function_name = record { held = j.held; number = omega arith; below = own.parameter (number_of_kind e (λ u. cc)) }
+    pub function_name : field_at records m 2 < name_space
+    function_name = own.parameter (number_of_kind e (λ u. cc))
 
     pub function_stop : {k : ℕ} → BodyDiffers records code stride m p n k → At scope mades (Err k)
     function_stop b = rw b.at (by_cases (ℕ_discrete (get_or code p 0) (connective_byte impl))
@@ -68,16 +68,19 @@ module _ {records code : List ℕ} {stride : ℕ} {scope : List (Option ℕ)} {m
       pub function_side : Stood code side
       function_side = halved.right
 
-      module _ {bound : List (Option ℕ)} {hidden : Option ℕ} (bd : Bound scope (field_at records m 2) (p + 1) bound hidden) where
+      module _ {x : ℕ} (ex : x ≡ field_at records m 2) {bound : List (Option ℕ)} {hidden : Option ℕ} (given : Bound scope x (p + 1) bound hidden) where
+        bd : Bound scope (field_at records m 2) (p + 1) bound hidden
+        bd = rw (← ex) given
+
         pub function_call : Call records code stride bound mades m a (n + 1)
-        function_call = call j function_is.less (bound_in bd function_name.below j.entries function_left) j.slots (omega (arith, j.room, function_is.size))
+        function_call = call j function_is.less (bound_in bd function_name j.entries function_left) j.slots (omega (arith, j.room, function_is.size))
 
         pub function_done : {called : List (Option ℕ)} {mades' : List Made} {back : List (Option ℕ)} {r : Result (Unit {0}) ℕ} → Checked records code stride bound mades a (n + 1) side called mades' r
-            → back ≡ set called (field_at records m 2) hidden → At back mades' r
+            → back ≡ set called x hidden → At back mades' r
         function_done c off =
             checked_at function_is.is
-            (function_body halved b.label.is function_name.below j.entries refl (checks_under bd.bound refl c.answer))
-            (restored bd function_name.below j.entries c.same off)
+            (function_body halved b.label.is function_name j.entries refl (checks_under bd.bound refl c.answer))
+            (restored bd function_name j.entries c.same (rw (← ex) off))
             (kept_wider n (n + nodes (term m)) (omega arith) (omega (arith, function_is.size)) c.kept)
 
   -- A pair.
@@ -185,26 +188,26 @@ module _ {records code : List ℕ} {stride : ℕ} {scope : List (Option ℕ)} {m
       pub case_stop : {k : ℕ} → opened ≡ Err k → At scope₁ mades₁ (Err k)
       case_stop l = case_unopened_at (head_unopened j ea e i given x l)
 
-      module _ {h : ℕ} (l : opened ≡ Ok h) {b next : ℕ} (eb : b ≡ field_at records m 2) (en : After records a (n + 1) next) {bound : List (Option ℕ)} {hidden : Option ℕ}
-          (bd : Bound scope₁ (field_at records m 4) (h + 1) bound hidden) {called : List (Option ℕ)} {mades₂ : List Made} {back : List (Option ℕ)} {q : Result (Unit {0}) ℕ}
-          (c : Checked records code stride bound mades₁ b next p called mades₂ q) (off : back ≡ set called (field_at records m 4) hidden) where
+      module _ {h : ℕ} (l : opened ≡ Ok h) {b next : ℕ} (eb : b ≡ field_at records m 2) (en : After records a (n + 1) next) {y : ℕ} (ey : y ≡ field_at records m 4) {bound : List (Option ℕ)} {hidden : Option ℕ}
+          (bd : Bound scope₁ y (h + 1) bound hidden) {called : List (Option ℕ)} {mades₂ : List Made} {back : List (Option ℕ)} {q : Result (Unit {0}) ℕ}
+          (c : Checked records code stride bound mades₁ b next p called mades₂ q) (off : back ≡ set called y hidden) where
         left_answer : ChecksAs code (set scope (field_at records m 4) (Some (h + 1))) (term b) (n + 1 + nodes (term a)) p q
-        left_answer = checks_under (sym c.same ∙ left_under j ea e i given x l eb en bd c.same c.kept off) (en labels) c.answer
+        left_answer = checks_under (sym c.same ∙ left_under j ea e i given x l eb en ey bd c.same c.kept off) (en labels) c.answer
 
         pub case_fail : {k : ℕ} → q ≡ Err k → At back mades₂ (Err k)
         case_fail fails =
             checked_at (rw eb (view j ea e).is)
-            (case_fails {b = term (field_at records m 3)} {y = field_at records m 5} (left_name j ea e).below j.entries (head_opening j ea e i given x l) (head_half j ea e i given x l) left_answer fails)
-            (left_back j ea e i given x l eb en bd c.same c.kept off) (left_kept j ea e i given x l eb en bd c.same c.kept off)
+            (case_fails {b = term (field_at records m 3)} {y = field_at records m 5} (left_name j ea e) j.entries (head_opening j ea e i given x l) (head_half j ea e i given x l) left_answer fails)
+            (left_back j ea e i given x l eb en ey bd c.same c.kept off) (left_kept j ea e i given x l eb en ey bd c.same c.kept off)
 
         pub case_done : {u : Unit {0}} → q ≡ Ok u → {d last side : ℕ} → (ed : d ≡ field_at records m 3) → (el : After records b next last) → (scanned : Scanned name_space code (h + 1) side)
-            → {bound₂ : List (Option ℕ)} {hidden₂ : Option ℕ} → (bd₂ : Bound back (field_at records m 5) side bound₂ hidden₂) → {called₂ : List (Option ℕ)} {mades₃ : List Made} {back₂ : List (Option ℕ)} {q₂ : Result (Unit {0}) ℕ}
-            → Checked records code stride bound₂ mades₂ d last p called₂ mades₃ q₂ → back₂ ≡ set called₂ (field_at records m 5) hidden₂ → At back₂ mades₃ q₂
-        case_done ok ed el scanned bd₂ c₂ off₂ =
+            → {z : ℕ} → (ez : z ≡ field_at records m 5) → {bound₂ : List (Option ℕ)} {hidden₂ : Option ℕ} → (bd₂ : Bound back z side bound₂ hidden₂) → {called₂ : List (Option ℕ)} {mades₃ : List Made} {back₂ : List (Option ℕ)} {q₂ : Result (Unit {0}) ℕ}
+            → Checked records code stride bound₂ mades₂ d last p called₂ mades₃ q₂ → back₂ ≡ set called₂ z hidden₂ → At back₂ mades₃ q₂
+        case_done ok ed el scanned ez bd₂ c₂ off₂ =
             let s = c.same in
-            checked_at (term_is j ea e i given x l eb en bd s c.kept off ed el scanned bd₂)
-            (case_then (left_name j ea e).below j.entries (head_opening j ea e i given x l) (sides j ea e i given x l scanned) left_answer (right_name j ea e).below ok
-            (checks_under (sym c₂.same ∙ right_under j ea e i given x l eb en bd s c.kept off ed el scanned bd₂ c₂.same)
-            (right_node j ea e i given x l eb en bd s c.kept off ed el scanned bd₂) c₂.answer))
-            (right_back j ea e i given x l eb en bd s c.kept off ed el scanned bd₂ c₂.same off₂)
-            (right_kept j ea e i given x l eb en bd s c.kept off ed el scanned bd₂ c₂.kept)
+            checked_at (term_is j ea e i given x l eb en ey bd s c.kept off ed el scanned ez bd₂)
+            (case_then (left_name j ea e) j.entries (head_opening j ea e i given x l) (sides j ea e i given x l scanned) left_answer (right_name j ea e) ok
+            (checks_under (sym c₂.same ∙ right_under j ea e i given x l eb en ey bd s c.kept off ed el scanned ez bd₂ c₂.same)
+            (right_node j ea e i given x l eb en ey bd s c.kept off ed el scanned ez bd₂) c₂.answer))
+            (right_back j ea e i given x l eb en ey bd s c.kept off ed el scanned ez bd₂ c₂.same off₂)
+            (right_kept j ea e i given x l eb en ey bd s c.kept off ed el scanned ez bd₂ c₂.kept)

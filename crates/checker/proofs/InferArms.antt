@@ -25,7 +25,7 @@ use Rattle.prop_numbers.proofs.Reps.{rep_kept, kept_all, kept_wider, kept_then, 
 use Rattle.prop_numbers.proofs.Comparing.{alike_sym}
 use Rattle.prop_numbers.proofs.Halves.{expected_same}
 use Rattle.prop_numbers.proofs.Fronts.{dec_connective}
-use Rattle.checker.specs.Asking.{OfKind, label_prop, term_of, Few, NameHeld, Well, Judgeable}
+use Rattle.checker.specs.Asking.{OfKind, label_prop, term_of, Few, Well, Judgeable}
 use Rattle.checker.specs.Judging.{InfersAs, ChecksAs, Inferred, Checked}
 use Rattle.checker.specs.Helping.{After, Bound, Found, label_place}
 use Rattle.checker.proofs.Forms.{One, Two, fst_view, snd_view, function_view, application_view, ascription_view, pair_view, ident_is, unit_is, inl_view, inr_view, abort_view, let_is, sorry_is}
@@ -223,8 +223,8 @@ module _ {records code : List ℕ} {stride : ℕ} {scope : List (Option ℕ)} {m
     function_is : One records code stride m a (Function (field_at records m 2) (parameter_label (label_prop code stride) (field_at records m 3) (field_at records m 4)))
     function_is = function_view own ea e
 
-    pub function_name : NameHeld records m 2
-    function_name = record { held = j.held; number = omega arith; below = own.parameter (number_of_kind e (λ u. cc)) }
+    pub function_name : field_at records m 2 < name_space
+    function_name = own.parameter (number_of_kind e (λ u. cc))
 
     module _ {found : Result ℕ ℕ} (x : found ≡ label_place stride (parameter_of_numbers (field_at records m 3) (field_at records m 4)) n) where
       annotated_none : field_at records m 3 ≡ 0 → found ≡ Err n
@@ -267,12 +267,15 @@ module _ {records code : List ℕ} {stride : ℕ} {scope : List (Option ℕ)} {m
             (some_label (label_prop code stride) (field_at records m 3) (field_at records m 4) there
             ∙ ap Some (a_proposition (label_prop code stride) (field_at records m 3) (field_at records m 4) no_function_datatype)))
 
-        module _ {bound : List (Option ℕ)} {hidden : Option ℕ} (bd : Bound scope (field_at records m 2) label bound hidden) where
+        module _ {y : ℕ} (ey : y ≡ field_at records m 2) {bound : List (Option ℕ)} {hidden : Option ℕ} (given : Bound scope y label bound hidden) where
+          bd : Bound scope (field_at records m 2) label bound hidden
+          bd = rw (← ey) given
+
           pub function_call : Call records code stride bound mades m a (n + 1)
-          function_call = call j function_is.less (bound_in bd function_name.below j.entries function_stood) j.slots (omega (arith, j.room, function_is.size))
+          function_call = call j function_is.less (bound_in bd function_name j.entries function_stood) j.slots (omega (arith, j.room, function_is.size))
 
           module _ {called : List (Option ℕ)} {mades' : List Made} {r : Result ℕ ℕ} (i : Inferred records code stride bound mades a (n + 1) called mades' r) where
-            module _ {back : List (Option ℕ)} (off : back ≡ set called (field_at records m 2) hidden) where
+            module _ {back : List (Option ℕ)} (off : back ≡ set called y hidden) where
               function_slots : length mades' ≡ node_limit
               function_slots = i.kept.long ∙ j.slots
 
@@ -280,18 +283,18 @@ module _ {records code : List ℕ} {stride : ℕ} {scope : List (Option ℕ)} {m
               function_answer = infers_under bd.bound refl i.answer
 
               function_same : back ≡ scope
-              function_same = restored bd function_name.below j.entries i.same off
+              function_same = restored bd function_name j.entries i.same (rw (← ey) off)
 
               function_kept : Kept n (n + nodes (term m)) mades mades'
               function_kept = kept_wider n (n + nodes (term m)) (omega arith) (omega (arith, function_is.size)) i.kept
 
               pub function_body_stop : {k : ℕ} → r ≡ Err k → At back mades' (Err k)
-              function_body_stop h = inferred_at function_labelled (function_stops function_name.below j.entries function_stood function_answer h) function_same function_kept
+              function_body_stop h = inferred_at function_labelled (function_stops function_name j.entries function_stood function_answer h) function_same function_kept
 
               pub function_done : {p y : ℕ} {last : List Made} → r ≡ Ok p → y ≡ standing + n → last ≡ slotted mades' n Impl label p → At back last (Ok y)
               function_done {p} h number slot =
                   rw (number, slot)
-                  (inferred_at function_labelled (function_gives function_name.below j.entries function_stood function_answer function_slots (omega (arith, j.room, function_is.size)) h) function_same
+                  (inferred_at function_labelled (function_gives function_name j.entries function_stood function_answer function_slots (omega (arith, j.room, function_is.size)) h) function_same
                   (kept_then function_kept (kept_wider n (n + nodes (term m)) (omega arith) (omega (arith, function_is.size)) (slot_kept mades' n Impl label p function_slots (node_low j) (n + 1) (omega arith)))))
 
   -- A pair.
@@ -351,43 +354,43 @@ module _ {records code : List ℕ} {stride : ℕ} {scope : List (Option ℕ)} {m
       pub case_stop : {k : ℕ} → opened ≡ Err k → At scope₁ mades₁ (Err k)
       case_stop l = case_unopened (head_unopened j ea e i given x l)
 
-      module _ {h : ℕ} (l : opened ≡ Ok h) {b next : ℕ} (eb : b ≡ field_at records m 2) (en : After records a (n + 1) next) {bound : List (Option ℕ)} {hidden : Option ℕ}
-          (bd : Bound scope₁ (field_at records m 4) (h + 1) bound hidden) {called : List (Option ℕ)} {mades₂ : List Made} {back : List (Option ℕ)} {q : Result ℕ ℕ}
-          (c : Inferred records code stride bound mades₁ b next called mades₂ q) (off : back ≡ set called (field_at records m 4) hidden) where
+      module _ {h : ℕ} (l : opened ≡ Ok h) {b next : ℕ} (eb : b ≡ field_at records m 2) (en : After records a (n + 1) next) {y : ℕ} (ey : y ≡ field_at records m 4) {bound : List (Option ℕ)} {hidden : Option ℕ}
+          (bd : Bound scope₁ y (h + 1) bound hidden) {called : List (Option ℕ)} {mades₂ : List Made} {back : List (Option ℕ)} {q : Result ℕ ℕ}
+          (c : Inferred records code stride bound mades₁ b next called mades₂ q) (off : back ≡ set called y hidden) where
         left_answer : InfersAs code (set scope (field_at records m 4) (Some (h + 1))) mades₂ (term b) (n + 1 + nodes (term a)) q
-        left_answer = infers_under (sym c.same ∙ left_under j ea e i given x l eb en bd c.same c.kept off) (en labels) c.answer
+        left_answer = infers_under (sym c.same ∙ left_under j ea e i given x l eb en ey bd c.same c.kept off) (en labels) c.answer
 
         pub case_left_stop : {k : ℕ} → q ≡ Err k → At back mades₂ (Err k)
         case_left_stop s =
             inferred_at (rw eb (view j ea e).is)
-            (case_left {b = term (field_at records m 3)} {y = field_at records m 5} (left_name j ea e).below j.entries (head_opening j ea e i given x l) (head_half j ea e i given x l) left_answer s)
-            (left_back j ea e i given x l eb en bd c.same c.kept off) (left_kept j ea e i given x l eb en bd c.same c.kept off)
+            (case_left {b = term (field_at records m 3)} {y = field_at records m 5} (left_name j ea e) j.entries (head_opening j ea e i given x l) (head_half j ea e i given x l) left_answer s)
+            (left_back j ea e i given x l eb en ey bd c.same c.kept off) (left_kept j ea e i given x l eb en ey bd c.same c.kept off)
 
         module _ {left : ℕ} (low : q ≡ Ok left) {d last side : ℕ} (ed : d ≡ field_at records m 3) (el : After records b next last) (scanned : Scanned name_space code (h + 1) side)
-            {bound₂ : List (Option ℕ)} {hidden₂ : Option ℕ} (bd₂ : Bound back (field_at records m 5) side bound₂ hidden₂) {called₂ : List (Option ℕ)} {mades₃ : List Made} {back₂ : List (Option ℕ)} {q₂ : Result ℕ ℕ}
-            (c₂ : Inferred records code stride bound₂ mades₂ d last called₂ mades₃ q₂) (off₂ : back₂ ≡ set called₂ (field_at records m 5) hidden₂) where
+            {z : ℕ} (ez : z ≡ field_at records m 5) {bound₂ : List (Option ℕ)} {hidden₂ : Option ℕ} (bd₂ : Bound back z side bound₂ hidden₂) {called₂ : List (Option ℕ)} {mades₃ : List Made} {back₂ : List (Option ℕ)} {q₂ : Result ℕ ℕ}
+            (c₂ : Inferred records code stride bound₂ mades₂ d last called₂ mades₃ q₂) (off₂ : back₂ ≡ set called₂ z hidden₂) where
           right_answer : InfersAs code (set scope (field_at records m 5) (Some side)) mades₃ (term d) (n + 1 + nodes (term a) + nodes (term b)) q₂
-          right_answer = infers_under (sym c₂.same ∙ right_under j ea e i given x l eb en bd c.same c.kept off ed el scanned bd₂ c₂.same)
-              (right_node j ea e i given x l eb en bd c.same c.kept off ed el scanned bd₂) c₂.answer
+          right_answer = infers_under (sym c₂.same ∙ right_under j ea e i given x l eb en ey bd c.same c.kept off ed el scanned ez bd₂ c₂.same)
+              (right_node j ea e i given x l eb en ey bd c.same c.kept off ed el scanned ez bd₂) c₂.answer
 
           case_is : term m ≡ Case (term a) (field_at records m 4) (term b) (field_at records m 5) (term d)
-          case_is = term_is j ea e i given x l eb en bd c.same c.kept off ed el scanned bd₂
+          case_is = term_is j ea e i given x l eb en ey bd c.same c.kept off ed el scanned ez bd₂
 
           same : back₂ ≡ scope
-          same = right_back j ea e i given x l eb en bd c.same c.kept off ed el scanned bd₂ c₂.same off₂
+          same = right_back j ea e i given x l eb en ey bd c.same c.kept off ed el scanned ez bd₂ c₂.same off₂
 
           kept : Kept n (n + nodes (term m)) mades mades₃
-          kept = right_kept j ea e i given x l eb en bd c.same c.kept off ed el scanned bd₂ c₂.kept
+          kept = right_kept j ea e i given x l eb en ey bd c.same c.kept off ed el scanned ez bd₂ c₂.kept
 
           whole_room : n + 1 + nodes (term a) + nodes (term b) + nodes (term d) ≤ node_limit
-          whole_room = omega (arith, el labels, en labels, right_room j ea e i given x l eb en bd c.same c.kept off ed el scanned, j.room)
+          whole_room = omega (arith, el labels, en labels, right_room j ea e i given x l eb en ey bd c.same c.kept off ed el scanned, j.room)
 
           right_slots : Kept (n + 1 + nodes (term a) + nodes (term b)) (n + 1 + nodes (term a) + nodes (term b) + nodes (term d)) mades₂ mades₃
           right_slots = rw (el labels, en labels) at c₂.kept
 
           -- what both branches infer
           pub case_right_known : (right : ℕ) → q₂ ≡ Ok right → Known code mades₃ right
-          case_right_known right s = known_answer c₂.answer s (omega (arith, right_room j ea e i given x l eb en bd c.same c.kept off ed el scanned, j.room))
+          case_right_known right s = known_answer c₂.answer s (omega (arith, right_room j ea e i given x l eb en ey bd c.same c.kept off ed el scanned, j.room))
 
           pub case_left_known : Known code mades₃ left
           case_left_known = record {
@@ -400,7 +403,7 @@ module _ {records code : List ℕ} {stride : ℕ} {scope : List (Option ℕ)} {m
 
           pub case_right_stop : {k : ℕ} → q₂ ≡ Err k → At back₂ mades₃ (Err k)
           case_right_stop s =
-              inferred_at case_is (case_right (left_name j ea e).below j.entries (head_opening j ea e i given x l) (sides j ea e i given x l scanned) left_answer (right_name j ea e).below low right_answer s) same kept
+              inferred_at case_is (case_right (left_name j ea e) j.entries (head_opening j ea e i given x l) (sides j ea e i given x l scanned) left_answer (right_name j ea e) low right_answer s) same kept
 
           module _ {right : ℕ} (s : q₂ ≡ Ok right) {x' : Result (Prim.Unit {0}) ℕ} (g : Agreed code mades₃ right left n x') where
             pub case_fail : {k : ℕ} → x' ≡ Err k → At back₂ mades₃ (Err k)
@@ -411,7 +414,7 @@ module _ {records code : List ℕ} {stride : ℕ} {scope : List (Option ℕ)} {m
                 tested false is =
                     let here : n ≡ k = cc (g.is ∙ ap (λ (b : Bool). cond b (Ok tt) (Err n)) is) in
                     rw (← here)
-                    (inferred_at case_is (case_differ (left_name j ea e).below j.entries (head_opening j ea e i given x l) (sides j ea e i given x l scanned) left_answer (right_name j ea e).below low right_answer
+                    (inferred_at case_is (case_differ (left_name j ea e) j.entries (head_opening j ea e i given x l) (sides j ea e i given x l scanned) left_answer (right_name j ea e) low right_answer
                     (alike_sym g.alike) s right_slots whole_room is) same kept)
 
             pub case_pass : {u : Prim.Unit {0}} → x' ≡ Ok u → At back₂ mades₃ (Ok left)
@@ -419,7 +422,7 @@ module _ {records code : List ℕ} {stride : ℕ} {scope : List (Option ℕ)} {m
               where
                 tested : (test : Bool) → g.test ≡ test → At back₂ mades₃ (Ok left)
                 tested true is =
-                    inferred_at case_is (case_gives (left_name j ea e).below j.entries (head_opening j ea e i given x l) (sides j ea e i given x l scanned) left_answer (right_name j ea e).below low right_answer
+                    inferred_at case_is (case_gives (left_name j ea e) j.entries (head_opening j ea e i given x l) (sides j ea e i given x l scanned) left_answer (right_name j ea e) low right_answer
                     (alike_sym g.alike) s right_slots whole_room is) same kept
                 tested false is = absurd (not_both ok (g.is ∙ ap (λ (b : Bool). cond b (Ok tt) (Err n)) is))
 

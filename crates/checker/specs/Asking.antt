@@ -34,12 +34,6 @@ pub record Few (records : List ℕ) (m node : ℕ) : Type 0 where
   pub props : ℕ → Prop ℕ
   pub few : node + nodes (term_at props records m) ≤ node_limit
 
--- number i of record m is a name of the space
-pub record NameHeld (records : List ℕ) (m i : ℕ) : Type 0 where
-  pub held : record_size * (m + 1) ≤ length records
-  pub number : i < record_size
-  pub below : field_at records m i < name_space
-
 -- a label of record k that is a proposition stands
 pub record LabelHeld (records code : List ℕ) (stride k : ℕ) : Type 0 where
   pub short : stride ≤ 2

@@ -7,7 +7,7 @@ ghost use Rattle.std.specs.Prelude.{◌≡◌, ℕ, ◌+◌, ◌-◌, ◌*◌, �
 ghost use Rattle.proof_term.specs.Records.{record_size, field_at};
 ghost use Rattle.proof_term.specs.declared.nodes.Kind.TheVariants.{Function, Pair, Application, Case};
 ghost use Rattle.prop_numbers.specs.Standing.{standing, name_space, Stood};
-ghost use Rattle.checker.specs.Asking.{Few, NameHeld, LabelHeld, OfKind, JudgeableTerm};
+ghost use Rattle.checker.specs.Asking.{Few, LabelHeld, OfKind, JudgeableTerm};
 ghost use Rattle.checker.specs.Judging.{InferredTerm, CheckedTerm};
 ghost use Rattle.checker.specs.Helping.{After, Found, Bound, label_place, BodySide};
 
@@ -52,6 +52,22 @@ fn entry(scope: &[Option<u32>; NAMES], name: usize, node: usize) -> Result<usize
     ensures { Found (get_or scope.now name None) node result }
 {
     scope[name].map(|p| p as usize).ok_or(node)
+}
+
+// Binds a name to the proposition at p, and gives the entry that this hides.
+fn bind(scope: &mut [Option<u32>; NAMES], name: usize, p: usize) -> Option<u32>
+    requires { (name < name_space) × (p < standing) }
+    ensures { Bound scope.old name p scope.new result }
+{
+    scope[name].replace(p as u32)
+}
+
+// Puts the hidden entry back.
+fn unbind(scope: &mut [Option<u32>; NAMES], name: usize, hidden: Option<u32>)
+    requires { name < name_space }
+    ensures { scope.new ≡ set scope.old name hidden }
+{
+    scope[name] = hidden;
 }
 
 // Checking and inferring have an arm for each rule. An arm that binds a name or asks of two parts is a function of its own, which the
@@ -104,26 +120,6 @@ impl<'a> Terms<'a> {
                 Err(node)
             }
         }
-    }
-
-    // Binds name i of record m to the proposition at p, and gives the entry that this hides.
-    fn bind(&self, scope: &mut [Option<u32>; NAMES], m: usize, i: usize, p: usize) -> Option<u32>
-        requires { NameHeld self.now.records.now m i × (p < standing) }
-        ensures { Bound scope.old (field_at self.now.records.now m i) p scope.new result }
-    {
-        let name = field(self.records, m, i);
-        let hidden = scope[name];
-        scope[name] = Some(p as u32);
-        hidden
-    }
-
-    // Puts the hidden entry back.
-    fn unbind(&self, scope: &mut [Option<u32>; NAMES], m: usize, i: usize, hidden: Option<u32>)
-        requires { NameHeld self.now.records.now m i }
-        ensures { scope.new ≡ set scope.old (field_at self.now.records.now m i) hidden }
-    {
-        let name = field(self.records, m, i);
-        scope[name] = hidden;
     }
 
     // Where a label stands, if there is one and it is a proposition; else the node.
@@ -204,9 +200,10 @@ impl<'a> Terms<'a> {
     {
         let first = field(self.records, m, FIRST);
         let side = self.body_side(m, p, node)?;
-        let hidden = self.bind(&mut state.scope, m, NAME, p + 1);
+        let name = field(self.records, m, NAME);
+        let hidden = bind(&mut state.scope, name, p + 1);
         let r = self.check(state, first, node + 1, side);
-        self.unbind(&mut state.scope, m, NAME, hidden);
+        unbind(&mut state.scope, name, hidden);
         r
     }
 
@@ -239,16 +236,18 @@ impl<'a> Terms<'a> {
             .with_connective(inferred, Connective::Or, node)?;
         let second = field(self.records, m, SECOND);
         let next = self.after(first, node + 1);
-        let hidden = self.bind(&mut state.scope, m, LEFT_NAME, h + 1);
+        let name = field(self.records, m, LEFT_NAME);
+        let hidden = bind(&mut state.scope, name, h + 1);
         let r = self.check(state, second, next, p);
-        self.unbind(&mut state.scope, m, LEFT_NAME, hidden);
+        unbind(&mut state.scope, name, hidden);
         r?;
         let third = field(self.records, m, THIRD);
         let last = self.after(second, next);
         let side = known_end(self.code, h + 1, NAMES);
-        let hidden = self.bind(&mut state.scope, m, RIGHT_NAME, side);
+        let name = field(self.records, m, RIGHT_NAME);
+        let hidden = bind(&mut state.scope, name, side);
         let r = self.check(state, third, last, p);
-        self.unbind(&mut state.scope, m, RIGHT_NAME, hidden);
+        unbind(&mut state.scope, name, hidden);
         r
     }
 
@@ -312,9 +311,10 @@ impl<'a> Terms<'a> {
     {
         let first = field(self.records, m, FIRST);
         let label = self.label_place(parameter_at(self.records, m), node)?;
-        let hidden = self.bind(&mut state.scope, m, NAME, label);
+        let name = field(self.records, m, NAME);
+        let hidden = bind(&mut state.scope, name, label);
         let r = self.infer(state, first, node + 1);
-        self.unbind(&mut state.scope, m, NAME, hidden);
+        unbind(&mut state.scope, name, hidden);
         let r = r?;
         Ok(make(&mut state.made, node, Connective::Impl, label, r))
     }
@@ -348,16 +348,18 @@ impl<'a> Terms<'a> {
             .with_connective(inferred, Connective::Or, node)?;
         let second = field(self.records, m, SECOND);
         let next = self.after(first, node + 1);
-        let hidden = self.bind(&mut state.scope, m, LEFT_NAME, h + 1);
+        let name = field(self.records, m, LEFT_NAME);
+        let hidden = bind(&mut state.scope, name, h + 1);
         let q = self.infer(state, second, next);
-        self.unbind(&mut state.scope, m, LEFT_NAME, hidden);
+        unbind(&mut state.scope, name, hidden);
         let q = q?;
         let third = field(self.records, m, THIRD);
         let last = self.after(second, next);
         let side = known_end(self.code, h + 1, NAMES);
-        let hidden = self.bind(&mut state.scope, m, RIGHT_NAME, side);
+        let name = field(self.records, m, RIGHT_NAME);
+        let hidden = bind(&mut state.scope, name, side);
         let r = self.infer(state, third, last);
-        self.unbind(&mut state.scope, m, RIGHT_NAME, hidden);
+        unbind(&mut state.scope, name, hidden);
         let r = r?;
         self.propositions(&state.made).agree(r, q, node)?;
         Ok(q)

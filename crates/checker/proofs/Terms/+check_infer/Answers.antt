@@ -96,20 +96,20 @@ check_function-returns-in_err-side t c =
 pub check_function-bind-hidden-requires : goal.check_function-bind-hidden-requires
 check_function-bind-hidden-requires t c =
     let e = c.requires.kind in
-    (arms.function_name c.requires.ready.0 c.requires.ready.1 c.field-first.ensures.0 e, (arms.function_left c.requires.ready.0 c.requires.ready.1 c.field-first.ensures.0 e c.in_ok-side.ensures).low)
+    (rw c.field-name.ensures.0 (arms.function_name c.requires.ready.0 c.requires.ready.1 c.field-first.ensures.0 e), (arms.function_left c.requires.ready.0 c.requires.ready.1 c.field-first.ensures.0 e c.in_ok-side.ensures).low)
 
 pub check_function-check-r-requires : goal.check_function-check-r-requires
 check_function-check-r-requires t c =
     let e = c.requires.kind in
-    let call = arms.function_call c.requires.ready.0 c.requires.ready.1 c.field-first.ensures.0 e c.in_ok-side.ensures c.bind-hidden.ensures in
+    let call = arms.function_call c.requires.ready.0 c.requires.ready.1 c.field-first.ensures.0 e c.in_ok-side.ensures c.field-name.ensures.0 c.bind-hidden.ensures in
     (omega (arith, c.decreases, call.less), (call.ready, arms.function_side c.requires.ready.0 c.requires.ready.1 c.field-first.ensures.0 e c.in_ok-side.ensures))
 
 pub check_function-unbind-requires : goal.check_function-unbind-requires
-check_function-unbind-requires t c = arms.function_name c.requires.ready.0 c.requires.ready.1 c.field-first.ensures.0 c.requires.kind
+check_function-unbind-requires t c = rw c.field-name.ensures.0 (arms.function_name c.requires.ready.0 c.requires.ready.1 c.field-first.ensures.0 c.requires.kind)
 
 pub check_function-returns : goal.check_function-returns
 check_function-returns t c =
-    arms.function_done c.requires.ready.0 c.requires.ready.1 c.field-first.ensures.0 c.requires.kind c.in_ok-side.ensures c.bind-hidden.ensures c.check-r.ensures c.unbind.ensures
+    arms.function_done c.requires.ready.0 c.requires.ready.1 c.field-first.ensures.0 c.requires.kind c.in_ok-side.ensures c.field-name.ensures.0 c.bind-hidden.ensures c.check-r.ensures c.unbind.ensures
 
 -- A pair.
 pub check_pair-returns-in_err-side : goal.check_pair-returns-in_err-side
@@ -175,7 +175,7 @@ check_case-after-next-requires t c =
 pub check_case-bind-hidden-requires : goal.check_case-bind-hidden-requires
 check_case-bind-hidden-requires t c =
     let e = c.requires.kind in (
-      cases.left_name c.requires.ready.0 c.field-first.ensures.0 e,
+      rw c.field-name.ensures.0 (cases.left_name c.requires.ready.0 c.field-first.ensures.0 e),
       (cases.left_stood c.requires.ready.0 c.field-first.ensures.0 c.requires.kind c.infer.ensures c.in_ok-inferred.was
           (expected_here c.propositions.ensures c.with_connective.ensures) c.in_ok-h.was).low,
     )
@@ -183,17 +183,17 @@ check_case-bind-hidden-requires t c =
 pub check_case-check-r-requires : goal.check_case-check-r-requires
 check_case-check-r-requires t c =
     let call = cases.left_call c.requires.ready.0 c.field-first.ensures.0 c.requires.kind c.infer.ensures c.in_ok-inferred.was (expected_here c.propositions.ensures c.with_connective.ensures) c.in_ok-h.was
-    c.field-second.ensures.0 c.after-next.ensures c.bind-hidden.ensures in
+    c.field-second.ensures.0 c.after-next.ensures c.field-name.ensures.0 c.bind-hidden.ensures in
     (omega (arith, c.decreases, call.less), (call.ready, c.requires.ready.1))
 
 pub check_case-unbind-requires : goal.check_case-unbind-requires
-check_case-unbind-requires t c = cases.left_name c.requires.ready.0 c.field-first.ensures.0 c.requires.kind
+check_case-unbind-requires t c = rw c.field-name.ensures.0 (cases.left_name c.requires.ready.0 c.field-first.ensures.0 c.requires.kind)
 
 pub check_case-returns-in_err-r : goal.check_case-returns-in_err-r
 check_case-returns-in_err-r t c =
     rw (passed_on c.from_residual-in_err-r.ensures)
     (arms.case_fail c.requires.ready.0 c.requires.ready.1 c.field-first.ensures.0 c.requires.kind c.infer.ensures c.in_ok-inferred.was (expected_here c.propositions.ensures c.with_connective.ensures) c.in_ok-h.was
-    c.field-second.ensures.0 c.after-next.ensures c.bind-hidden.ensures c.check-r.ensures c.unbind.ensures c.in_err-r.was)
+    c.field-second.ensures.0 c.after-next.ensures c.field-name.ensures.0 c.bind-hidden.ensures c.check-r.ensures c.unbind.ensures c.in_err-r.was)
 
 pub check_case-after-last-requires : goal.check_case-after-last-requires
 check_case-after-last-requires t c =
@@ -208,7 +208,7 @@ pub check_case-bind-hidden-requires-2 : goal.check_case-bind-hidden-requires-2
 check_case-bind-hidden-requires-2 t c =
     let e = c.requires.kind in
     let l = c.in_ok-h.was in (
-      cases.right_name c.requires.ready.0 c.field-first.ensures.0 e,
+      rw c.field-name-2.ensures.0 (cases.right_name c.requires.ready.0 c.field-first.ensures.0 e),
       (cases.sides c.requires.ready.0 c.field-first.ensures.0 e c.infer.ensures c.in_ok-inferred.was
           (expected_here c.propositions.ensures c.with_connective.ensures) l c.known_end-side.ensures).right.low,
     )
@@ -216,12 +216,12 @@ check_case-bind-hidden-requires-2 t c =
 pub check_case-check-r-requires-2 : goal.check_case-check-r-requires-2
 check_case-check-r-requires-2 t c =
     let call = cases.right_call c.requires.ready.0 c.field-first.ensures.0 c.requires.kind c.infer.ensures c.in_ok-inferred.was (expected_here c.propositions.ensures c.with_connective.ensures) c.in_ok-h.was
-    c.field-second.ensures.0 c.after-next.ensures c.bind-hidden.ensures c.check-r.ensures.same c.check-r.ensures.kept c.unbind.ensures
-    c.field-third.ensures.0 c.after-last.ensures c.known_end-side.ensures c.bind-hidden-2.ensures in
+    c.field-second.ensures.0 c.after-next.ensures c.field-name.ensures.0 c.bind-hidden.ensures c.check-r.ensures.same c.check-r.ensures.kept c.unbind.ensures
+    c.field-third.ensures.0 c.after-last.ensures c.known_end-side.ensures c.field-name-2.ensures.0 c.bind-hidden-2.ensures in
     (omega (arith, c.decreases, call.less), (call.ready, c.requires.ready.1))
 
 pub check_case-unbind-requires-2 : goal.check_case-unbind-requires-2
-check_case-unbind-requires-2 t c = cases.right_name c.requires.ready.0 c.field-first.ensures.0 c.requires.kind
+check_case-unbind-requires-2 t c = rw c.field-name-2.ensures.0 (cases.right_name c.requires.ready.0 c.field-first.ensures.0 c.requires.kind)
 
 pub check_case-overflow_add-h : goal.check_case-overflow_add-h
 check_case-overflow_add-h t c =
@@ -234,8 +234,8 @@ check_case-overflow_add-h-2 t c =
 pub check_case-returns : goal.check_case-returns
 check_case-returns t c =
     arms.case_done c.requires.ready.0 c.requires.ready.1 c.field-first.ensures.0 c.requires.kind c.infer.ensures c.in_ok-inferred.was (expected_here c.propositions.ensures c.with_connective.ensures) c.in_ok-h.was
-    c.field-second.ensures.0 c.after-next.ensures c.bind-hidden.ensures c.check-r.ensures c.unbind.ensures c.in_ok-r.was
-    c.field-third.ensures.0 c.after-last.ensures c.known_end-side.ensures c.bind-hidden-2.ensures c.check-r-2.ensures c.unbind-2.ensures
+    c.field-second.ensures.0 c.after-next.ensures c.field-name.ensures.0 c.bind-hidden.ensures c.check-r.ensures c.unbind.ensures c.in_ok-r.was
+    c.field-third.ensures.0 c.after-last.ensures c.known_end-side.ensures c.field-name-2.ensures.0 c.bind-hidden-2.ensures c.check-r-2.ensures c.unbind-2.ensures
 
 -- What is inferred.
 pub infer-entry-requires : goal.infer-entry-requires
@@ -384,20 +384,20 @@ infer_function-returns-in_err-label t c =
 pub infer_function-bind-hidden-requires : goal.infer_function-bind-hidden-requires
 infer_function-bind-hidden-requires t c =
     let e = c.requires.kind in
-    (inferring.function_name c.requires.ready c.field-first.ensures.0 e, (inferring.function_stood c.requires.ready c.field-first.ensures.0 e (rw c.parameter_at.ensures at c.label_place.ensures) c.in_ok-label.was).low)
+    (rw c.field-name.ensures.0 (inferring.function_name c.requires.ready c.field-first.ensures.0 e), (inferring.function_stood c.requires.ready c.field-first.ensures.0 e (rw c.parameter_at.ensures at c.label_place.ensures) c.in_ok-label.was).low)
 
 pub infer_function-infer-r-requires : goal.infer_function-infer-r-requires
 infer_function-infer-r-requires t c =
-    let call = inferring.function_call c.requires.ready c.field-first.ensures.0 c.requires.kind (rw c.parameter_at.ensures at c.label_place.ensures) c.in_ok-label.was c.bind-hidden.ensures in
+    let call = inferring.function_call c.requires.ready c.field-first.ensures.0 c.requires.kind (rw c.parameter_at.ensures at c.label_place.ensures) c.in_ok-label.was c.field-name.ensures.0 c.bind-hidden.ensures in
     (omega (arith, c.decreases, call.less), call.ready)
 
 pub infer_function-unbind-requires : goal.infer_function-unbind-requires
-infer_function-unbind-requires t c = inferring.function_name c.requires.ready c.field-first.ensures.0 c.requires.kind
+infer_function-unbind-requires t c = rw c.field-name.ensures.0 (inferring.function_name c.requires.ready c.field-first.ensures.0 c.requires.kind)
 
 pub infer_function-returns-in_err-r : goal.infer_function-returns-in_err-r
 infer_function-returns-in_err-r t c =
     rw (passed_on c.from_residual-in_err-r.ensures)
-    (inferring.function_body_stop c.requires.ready c.field-first.ensures.0 c.requires.kind (rw c.parameter_at.ensures at c.label_place.ensures) c.in_ok-label.was c.bind-hidden.ensures c.infer-r.ensures c.unbind.ensures c.in_err-r.was)
+    (inferring.function_body_stop c.requires.ready c.field-first.ensures.0 c.requires.kind (rw c.parameter_at.ensures at c.label_place.ensures) c.in_ok-label.was c.field-name.ensures.0 c.bind-hidden.ensures c.infer-r.ensures c.unbind.ensures c.in_err-r.was)
 
 pub infer_function-make-requires : goal.infer_function-make-requires
 infer_function-make-requires t c = (
@@ -408,7 +408,7 @@ infer_function-make-requires t c = (
 
 pub infer_function-returns : goal.infer_function-returns
 infer_function-returns t c =
-    inferring.function_done c.requires.ready c.field-first.ensures.0 c.requires.kind (rw c.parameter_at.ensures at c.label_place.ensures) c.in_ok-label.was c.bind-hidden.ensures c.infer-r.ensures c.unbind.ensures c.in_ok-r.was
+    inferring.function_done c.requires.ready c.field-first.ensures.0 c.requires.kind (rw c.parameter_at.ensures at c.label_place.ensures) c.in_ok-label.was c.field-name.ensures.0 c.bind-hidden.ensures c.infer-r.ensures c.unbind.ensures c.in_ok-r.was
     c.make.ensures.number c.make.ensures.slot
 
 pub infer_function-label_place-requires : goal.infer_function-label_place-requires
@@ -475,7 +475,7 @@ infer_case-after-next-requires t c =
 
 pub infer_case-bind-hidden-requires : goal.infer_case-bind-hidden-requires
 infer_case-bind-hidden-requires t c = (
-  cases.left_name c.requires.ready c.field-first.ensures.0 c.requires.kind,
+  rw c.field-name.ensures.0 (cases.left_name c.requires.ready c.field-first.ensures.0 c.requires.kind),
   (cases.left_stood c.requires.ready c.field-first.ensures.0 c.requires.kind c.infer.ensures c.in_ok-inferred.was
       (expected_here c.propositions.ensures c.with_connective.ensures) c.in_ok-h.was).low,
 )
@@ -483,17 +483,17 @@ infer_case-bind-hidden-requires t c = (
 pub infer_case-infer-q-requires : goal.infer_case-infer-q-requires
 infer_case-infer-q-requires t c =
     let call = cases.left_call c.requires.ready c.field-first.ensures.0 c.requires.kind c.infer.ensures c.in_ok-inferred.was (expected_here c.propositions.ensures c.with_connective.ensures) c.in_ok-h.was
-    c.field-second.ensures.0 c.after-next.ensures c.bind-hidden.ensures in
+    c.field-second.ensures.0 c.after-next.ensures c.field-name.ensures.0 c.bind-hidden.ensures in
     (omega (arith, c.decreases, call.less), call.ready)
 
 pub infer_case-unbind-requires : goal.infer_case-unbind-requires
-infer_case-unbind-requires t c = cases.left_name c.requires.ready c.field-first.ensures.0 c.requires.kind
+infer_case-unbind-requires t c = rw c.field-name.ensures.0 (cases.left_name c.requires.ready c.field-first.ensures.0 c.requires.kind)
 
 pub infer_case-returns-in_err-q : goal.infer_case-returns-in_err-q
 infer_case-returns-in_err-q t c =
     rw (passed_on c.from_residual-in_err-q.ensures)
     (inferring.case_left_stop c.requires.ready c.field-first.ensures.0 c.requires.kind c.infer.ensures c.in_ok-inferred.was (expected_here c.propositions.ensures c.with_connective.ensures) c.in_ok-h.was
-    c.field-second.ensures.0 c.after-next.ensures c.bind-hidden.ensures c.infer-q.ensures c.unbind.ensures c.in_err-q.was)
+    c.field-second.ensures.0 c.after-next.ensures c.field-name.ensures.0 c.bind-hidden.ensures c.infer-q.ensures c.unbind.ensures c.in_err-q.was)
 
 pub infer_case-after-last-requires : goal.infer_case-after-last-requires
 infer_case-after-last-requires t c =
@@ -507,7 +507,7 @@ infer_case-known_end-side-requires t c =
 pub infer_case-bind-hidden-requires-2 : goal.infer_case-bind-hidden-requires-2
 infer_case-bind-hidden-requires-2 t c =
     let l = c.in_ok-h.was in (
-      cases.right_name c.requires.ready c.field-first.ensures.0 c.requires.kind,
+      rw c.field-name-2.ensures.0 (cases.right_name c.requires.ready c.field-first.ensures.0 c.requires.kind),
       (cases.sides c.requires.ready c.field-first.ensures.0 c.requires.kind c.infer.ensures c.in_ok-inferred.was
           (expected_here c.propositions.ensures c.with_connective.ensures) l c.known_end-side.ensures).right.low,
     )
@@ -515,19 +515,19 @@ infer_case-bind-hidden-requires-2 t c =
 pub infer_case-infer-r-requires : goal.infer_case-infer-r-requires
 infer_case-infer-r-requires t c =
     let call = cases.right_call c.requires.ready c.field-first.ensures.0 c.requires.kind c.infer.ensures c.in_ok-inferred.was (expected_here c.propositions.ensures c.with_connective.ensures) c.in_ok-h.was
-    c.field-second.ensures.0 c.after-next.ensures c.bind-hidden.ensures c.infer-q.ensures.same c.infer-q.ensures.kept c.unbind.ensures
-    c.field-third.ensures.0 c.after-last.ensures c.known_end-side.ensures c.bind-hidden-2.ensures in
+    c.field-second.ensures.0 c.after-next.ensures c.field-name.ensures.0 c.bind-hidden.ensures c.infer-q.ensures.same c.infer-q.ensures.kept c.unbind.ensures
+    c.field-third.ensures.0 c.after-last.ensures c.known_end-side.ensures c.field-name-2.ensures.0 c.bind-hidden-2.ensures in
     (omega (arith, c.decreases, call.less), call.ready)
 
 pub infer_case-unbind-requires-2 : goal.infer_case-unbind-requires-2
-infer_case-unbind-requires-2 t c = cases.right_name c.requires.ready c.field-first.ensures.0 c.requires.kind
+infer_case-unbind-requires-2 t c = rw c.field-name-2.ensures.0 (cases.right_name c.requires.ready c.field-first.ensures.0 c.requires.kind)
 
 pub infer_case-returns-in_err-r : goal.infer_case-returns-in_err-r
 infer_case-returns-in_err-r t c =
     rw (passed_on c.from_residual-in_err-r.ensures)
     (inferring.case_right_stop c.requires.ready c.field-first.ensures.0 c.requires.kind c.infer.ensures c.in_ok-inferred.was (expected_here c.propositions.ensures c.with_connective.ensures) c.in_ok-h.was
-    c.field-second.ensures.0 c.after-next.ensures c.bind-hidden.ensures c.infer-q.ensures c.unbind.ensures c.in_ok-q.was
-    c.field-third.ensures.0 c.after-last.ensures c.known_end-side.ensures c.bind-hidden-2.ensures c.infer-r.ensures c.unbind-2.ensures c.in_err-r.was)
+    c.field-second.ensures.0 c.after-next.ensures c.field-name.ensures.0 c.bind-hidden.ensures c.infer-q.ensures c.unbind.ensures c.in_ok-q.was
+    c.field-third.ensures.0 c.after-last.ensures c.known_end-side.ensures c.field-name-2.ensures.0 c.bind-hidden-2.ensures c.infer-r.ensures c.unbind-2.ensures c.in_err-r.was)
 
 pub infer_case-agree-requires : goal.infer_case-agree-requires
 infer_case-agree-requires t c =
@@ -536,12 +536,12 @@ infer_case-agree-requires t c =
       code_len_bound = (c.requires.ready.ends.space, slots);
       known = (
         inferring.case_right_known c.requires.ready c.field-first.ensures.0 c.requires.kind c.infer.ensures c.in_ok-inferred.was (expected_here c.propositions.ensures c.with_connective.ensures) c.in_ok-h.was
-            c.field-second.ensures.0 c.after-next.ensures c.bind-hidden.ensures c.infer-q.ensures c.unbind.ensures c.in_ok-q.was
-            c.field-third.ensures.0 c.after-last.ensures c.known_end-side.ensures c.bind-hidden-2.ensures c.infer-r.ensures c.unbind-2.ensures
+            c.field-second.ensures.0 c.after-next.ensures c.field-name.ensures.0 c.bind-hidden.ensures c.infer-q.ensures c.unbind.ensures c.in_ok-q.was
+            c.field-third.ensures.0 c.after-last.ensures c.known_end-side.ensures c.field-name-2.ensures.0 c.bind-hidden-2.ensures c.infer-r.ensures c.unbind-2.ensures
             _ c.in_ok-r.was,
         inferring.case_left_known c.requires.ready c.field-first.ensures.0 c.requires.kind c.infer.ensures c.in_ok-inferred.was (expected_here c.propositions.ensures c.with_connective.ensures) c.in_ok-h.was
-            c.field-second.ensures.0 c.after-next.ensures c.bind-hidden.ensures c.infer-q.ensures c.unbind.ensures c.in_ok-q.was
-            c.field-third.ensures.0 c.after-last.ensures c.known_end-side.ensures c.bind-hidden-2.ensures c.infer-r.ensures c.unbind-2.ensures,
+            c.field-second.ensures.0 c.after-next.ensures c.field-name.ensures.0 c.bind-hidden.ensures c.infer-q.ensures c.unbind.ensures c.in_ok-q.was
+            c.field-third.ensures.0 c.after-last.ensures c.known_end-side.ensures c.field-name-2.ensures.0 c.bind-hidden-2.ensures c.infer-r.ensures c.unbind-2.ensures,
       );
     })
 
@@ -549,8 +549,8 @@ pub infer_case-returns-in_err-agree : goal.infer_case-returns-in_err-agree
 infer_case-returns-in_err-agree t c =
     rw (passed_on c.from_residual-in_err-agree.ensures)
     (inferring.case_fail c.requires.ready c.field-first.ensures.0 c.requires.kind c.infer.ensures c.in_ok-inferred.was (expected_here c.propositions.ensures c.with_connective.ensures) c.in_ok-h.was
-    c.field-second.ensures.0 c.after-next.ensures c.bind-hidden.ensures c.infer-q.ensures c.unbind.ensures c.in_ok-q.was
-    c.field-third.ensures.0 c.after-last.ensures c.known_end-side.ensures c.bind-hidden-2.ensures c.infer-r.ensures c.unbind-2.ensures
+    c.field-second.ensures.0 c.after-next.ensures c.field-name.ensures.0 c.bind-hidden.ensures c.infer-q.ensures c.unbind.ensures c.in_ok-q.was
+    c.field-third.ensures.0 c.after-last.ensures c.known_end-side.ensures c.field-name-2.ensures.0 c.bind-hidden-2.ensures c.infer-r.ensures c.unbind-2.ensures
     c.in_ok-r.was (rw (c.propositions-2.ensures.0, c.propositions-2.ensures.1) at c.agree.ensures) c.in_err-agree.was)
 
 pub infer_case-overflow_add-h : goal.infer_case-overflow_add-h
@@ -564,6 +564,6 @@ infer_case-overflow_add-h-2 t c =
 pub infer_case-returns : goal.infer_case-returns
 infer_case-returns t c =
     inferring.case_pass c.requires.ready c.field-first.ensures.0 c.requires.kind c.infer.ensures c.in_ok-inferred.was (expected_here c.propositions.ensures c.with_connective.ensures) c.in_ok-h.was
-    c.field-second.ensures.0 c.after-next.ensures c.bind-hidden.ensures c.infer-q.ensures c.unbind.ensures c.in_ok-q.was
-    c.field-third.ensures.0 c.after-last.ensures c.known_end-side.ensures c.bind-hidden-2.ensures c.infer-r.ensures c.unbind-2.ensures
+    c.field-second.ensures.0 c.after-next.ensures c.field-name.ensures.0 c.bind-hidden.ensures c.infer-q.ensures c.unbind.ensures c.in_ok-q.was
+    c.field-third.ensures.0 c.after-last.ensures c.known_end-side.ensures c.field-name-2.ensures.0 c.bind-hidden-2.ensures c.infer-r.ensures c.unbind-2.ensures
     c.in_ok-r.was (rw (c.propositions-2.ensures.0, c.propositions-2.ensures.1) at c.agree.ensures) c.in_ok-agree.was
