@@ -1,6 +1,6 @@
 -- What has a connective has sides: of a proposition that is inferred and must have one, and of a proposition that stands.
 use Prim.Native.Nat.{ℕ, ◌+◌, ◌≤◌, ◌<◌}
-use mathlib.Core.Path.{◌≡◌, refl, ap, ◌∙◌}
+use mathlib.Core.Path.{◌≡◌, ap}
 use mathlib.Core.Logic.{by_cases}
 use Rattle.std.specs.Prelude.{Option, Some, Result, Ok, Err}
 use mathlib.Core.List.{List}

@@ -73,8 +73,9 @@ fn unbind(scope: &mut [Option<u32>; NAMES], name: usize, hidden: Option<u32>)
 // Checking and inferring have an arm for each rule. An arm that binds a name or asks of two parts is a function of its own, which the
 // compiler puts into its one caller, so that each of the 512 levels takes one frame. An answer is nothing or a proposition's number, or else
 // the node that stops the rules (docs/DECISIONS.md, 135).
-// A record is not taken apart as a Node: the arm of a case would have ten parameters, since its contract speaks of the record's number
-// beside the parts and the names.
+// An arm asks for the numbers of its record as it needs them, and takes no Node apart: while the head and the first branch of a case are
+// judged, each of the 512 levels would keep the second branch and its name too, where the record's number is enough. Each answer would also
+// cite a law that the node's fields are the record's numbers, which is what `field` says of its result.
 // Binding a name around one call stands six times: a method over a closure would stand in the cycle of calls with each closure, and each
 // use would ask a measure and a contract of both. The head of a case stands in two arms: a function for its two calls would be one more of
 // the cycle, and its contract would say again what `infer` and `with_connective` say.
@@ -236,13 +237,13 @@ impl<'a> Terms<'a> {
             .with_connective(inferred, Connective::Or, node)?;
         let second = field(self.records, m, SECOND);
         let next = self.after(first, node + 1);
+        let last = self.after(second, next);
         let name = field(self.records, m, LEFT_NAME);
         let hidden = bind(&mut state.scope, name, h + 1);
         let r = self.check(state, second, next, p);
         unbind(&mut state.scope, name, hidden);
         r?;
         let third = field(self.records, m, THIRD);
-        let last = self.after(second, next);
         let side = known_end(self.code, h + 1, NAMES);
         let name = field(self.records, m, RIGHT_NAME);
         let hidden = bind(&mut state.scope, name, side);
@@ -348,13 +349,13 @@ impl<'a> Terms<'a> {
             .with_connective(inferred, Connective::Or, node)?;
         let second = field(self.records, m, SECOND);
         let next = self.after(first, node + 1);
+        let last = self.after(second, next);
         let name = field(self.records, m, LEFT_NAME);
         let hidden = bind(&mut state.scope, name, h + 1);
         let q = self.infer(state, second, next);
         unbind(&mut state.scope, name, hidden);
         let q = q?;
         let third = field(self.records, m, THIRD);
-        let last = self.after(second, next);
         let side = known_end(self.code, h + 1, NAMES);
         let name = field(self.records, m, RIGHT_NAME);
         let hidden = bind(&mut state.scope, name, side);

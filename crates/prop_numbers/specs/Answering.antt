@@ -8,7 +8,7 @@ use Rattle.prefix_code.specs.declared.Connective.{Connective}
 use Rattle.prefix_code.specs.declared.Connective.TheVariants.{And}
 use Rattle.prefix_code.specs.Shape.{meant}
 use Rattle.prop_numbers.specs.declared.Made.{Made}
-use Rattle.prop_numbers.specs.Standing.{standing, name_space, Rep, Distinct, connective_of, left_of, slotted}
+use Rattle.prop_numbers.specs.Standing.{name_space, Rep, Distinct, connective_of, left_of}
 
 -- the test whether two numbers have equal propositions, by every naming by different names
 pub record Alike (code : List ℕ) (made : List Made) (p q : ℕ) (r : Bool) : Type 0 where

@@ -135,12 +135,7 @@ impl Propositions<'_> {
     }
 
     // The side of a conjunction, as the closure finds it; else the node.
-    fn project<F: Fn(usize) -> usize>(
-        &self,
-        p: usize,
-        node: usize,
-        side: F,
-    ) -> Result<usize, usize>
+    fn project<F: Fn(usize) -> usize>(&self, p: usize, node: usize, side: F) -> Result<usize, usize>
         requires given { Space self.now.code.now self.now.made.now p }
         requires side { F.pre side p }
         ensures { Projected self.now.code.now self.now.made.now p (F.post side) node result }
