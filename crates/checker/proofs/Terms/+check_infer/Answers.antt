@@ -64,12 +64,6 @@ check-returns-in_ok-r-in-Ident t c =
     (falls (c.requires.0.well _ (omega arith)) c.field-first.ensures.0 (rw c.kind_at-kind.ensures at c.in-Ident.is))
     c.in_ok-r-in-Ident.was (rw (c.propositions.ensures.0, c.propositions.ensures.1) at c.agree.ensures)
 
-pub check-side_of-requires : goal.check-side_of-requires
-check-side_of-requires t c = (c.requires.1, c.requires.0.ends.space)
-
-pub check-side_of-requires-in-OrRight : goal.check-side_of-requires-in-OrRight
-check-side_of-requires-in-OrRight t c = (c.requires.1, c.requires.0.ends.space)
-
 pub check-returns-in-Abort : goal.check-returns-in-Abort
 check-returns-in-Abort t c = arms.abort_done c.requires.0 c.requires.1 c.field-first.ensures.0 (sym c.kind_at-kind.ensures ∙ c.in-Abort.is) (rw c.bottom.ensures at c.check-in-Abort.ensures)
 
@@ -80,14 +74,6 @@ pub check-returns-in-LetIn : goal.check-returns-in-LetIn
 check-returns-in-LetIn t c = arms.let_done c.requires.0 c.requires.1 c.field-first.ensures.0 (sym c.kind_at-kind.ensures ∙ c.in-LetIn.is)
 
 -- A function.
-pub check_function-body_side-requires : goal.check_function-body_side-requires
-check_function-body_side-requires t c =
-    let j = c.requires.ready.0 in
-    record {
-      m_in_bounds = (j.held, (j.well c.args.m (omega arith)).label);
-      m_value = (c.requires.kind, c.requires.ready.1, j.ends.space);
-    }
-
 pub check_function-returns-in_err-side : goal.check_function-returns-in_err-side
 check_function-returns-in_err-side t c =
     rw (passed_on c.from_residual.ensures)
@@ -143,9 +129,6 @@ pub check_pair-returns : goal.check_pair-returns
 check_pair-returns t c =
     arms.pair_done c.requires.ready.0 c.requires.ready.1 c.field-first.ensures.0 c.requires.kind c.in_ok-side.ensures c.check.ensures c.in_ok-check.was
     c.field-second.ensures.0 c.after-next.ensures c.check-2.ensures
-
-pub check_pair-side_of-requires : goal.check_pair-side_of-requires
-check_pair-side_of-requires t c = (c.requires.ready.1, c.requires.ready.0.ends.space)
 
 -- A case.
 pub check_case-infer-requires : goal.check_case-infer-requires
@@ -306,9 +289,6 @@ pub infer-returns-in_ok-check-in-TypeAscription : goal.infer-returns-in_ok-check
 infer-returns-in_ok-check-in-TypeAscription t c =
     inferring.ascription_pass c.requires c.field-first.ensures.0 (sym c.kind_at-kind.ensures ∙ c.in-TypeAscription.is) (rw c.label_at.ensures at c.label_place.ensures) c.in_ok-label-in-TypeAscription.was c.check.ensures c.in_ok-check-in-TypeAscription.was
 
-pub infer-label_place-requires : goal.infer-label_place-requires
-infer-label_place-requires t c = (c.requires.well c.args.m (omega arith)).label.short
-
 pub infer-returns-in-Unit : goal.infer-returns-in-Unit
 infer-returns-in-Unit t c = rw c.top.ensures (inferring.unit_done c.requires c.field-first.ensures.0 (sym c.kind_at-kind.ensures ∙ c.in-Unit.is))
 
@@ -410,9 +390,6 @@ pub infer_function-returns : goal.infer_function-returns
 infer_function-returns t c =
     inferring.function_done c.requires.ready c.field-first.ensures.0 c.requires.kind (rw c.parameter_at.ensures at c.label_place.ensures) c.in_ok-label.was c.field-name.ensures.0 c.bind-hidden.ensures c.infer-r.ensures c.unbind.ensures c.in_ok-r.was
     c.make.ensures.number c.make.ensures.slot
-
-pub infer_function-label_place-requires : goal.infer_function-label_place-requires
-infer_function-label_place-requires t c = (c.requires.ready.well c.args.m (omega arith)).label.short
 
 -- A pair.
 pub infer_pair-infer-requires : goal.infer_pair-infer-requires
