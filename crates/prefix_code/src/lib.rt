@@ -21,22 +21,23 @@ pub const NESTING_LIMIT: usize = 64;
 // All propositions of a sheet, and one of a label, take at most so many bytes.
 pub const CODE_LIMIT: usize = 8192;
 
-// The bytes in front, as they are written. Each names one form of proposition for every crate, and is read as a `Head`.
+// The bytes in front, each read as a `Head`. Other crates write those of ⊤, ⊥ and atoms by these names; a connective and a quantifier
+// give theirs by `byte`, so that the names of those serve `Head::of_byte` alone, whose patterns cannot call it.
 pub const TRUE: u8 = 0;
 
 pub const FALSE: u8 = 1;
 
-pub const AND: u8 = Connective::And as u8;
+const AND: u8 = Connective::And as u8;
 
-pub const OR: u8 = Connective::Or as u8;
+const OR: u8 = Connective::Or as u8;
 
-pub const IMPL: u8 = Connective::Impl as u8;
+const IMPL: u8 = Connective::Impl as u8;
 
 pub const ATOM: u8 = 5;
 
-pub const FOR_ALL: u8 = Quantifier::ForAll as u8;
+const FOR_ALL: u8 = Quantifier::ForAll as u8;
 
-pub const EXISTS: u8 = Quantifier::Exists as u8;
+const EXISTS: u8 = Quantifier::Exists as u8;
 
 // Code, a place in it and the count of its names stand loose: the place moves from call to call, and of a struct of the other two nearly
 // each use, here and in the crates above, would read `code.bytes`, for the count is only asked for where a number of a name has to be below
@@ -162,10 +163,7 @@ pub fn head_end(code: &[u8], at: usize, names: usize) -> Option<usize>
     requires { at ≤ length code.now }
     ensures { EndIfAny (head_coding names) code.now at result }
 {
-    if code.len() <= at {
-        return None;
-    }
-    match Head::of_byte(code[at])? {
+    match Head::of_byte(*code.get(at)?)? {
         Head::Atom => atom_end(code, at, names),
         Head::Quantified(_) => quantifier_end(code, at, names),
         Head::True | Head::False | Head::Binary(_) => Some(at + 1),
