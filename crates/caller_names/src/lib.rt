@@ -10,9 +10,6 @@ ghost use Rattle.caller_names.specs.Left.{names_left};
 
 use identifier::{NAME_LENGTH_LIMIT, is_name, same_name};
 
-// The byte between two names.
-const NEWLINE: u8 = 10;
-
 // Whether these bytes are a name of document 01.
 #[tactic(auto, unfolding(definitions::specs::CallerNames::well_formed, definitions::specs::Sheet::name_length_limit))]
 pub fn well_formed(name: &[u8]) -> bool
@@ -21,7 +18,8 @@ pub fn well_formed(name: &[u8]) -> bool
     name.len() <= NAME_LENGTH_LIMIT && is_name(name)
 }
 
-// An iterator over the names of a list, from the first to the last: the bytes that are not cut yet, or none past the last name.
+// An iterator over the names of a list, from the first to the last: the bytes that are not cut yet, or none past the last name. A slice's
+// own `split` gives a `Split` of a closure, whose type no result can name, and divides no bytes into one piece, where a list has no names.
 #[derive(Drop)]
 pub struct Names<'a> {
     rest: Option<&'a [u8]>,
@@ -37,7 +35,7 @@ impl<'a> Iterator for Names<'a> {
     #[tactic(auto, unfolding(crate::specs::Left::pieces_of))]
     fn next(&mut self) -> Option<&'a [u8]> {
         let rest = self.rest?;
-        let Some(end) = rest.iter().position(|b| *b == NEWLINE) else {
+        let Some(end) = rest.iter().position(|b| *b == b'\n') else {
             self.rest = None;
             return Some(rest);
         };
