@@ -17,6 +17,8 @@ use Rattle.std.specs.Prelude.{Option}
 use Rattle.definitions.specs.CallerNames.{names_in}
 use borrow.Author.Tests.{lt-ltb, le-ltb, ltb-false}
 use Rattle.std.specs.List.{list_any}
+use Rattle.std.specs.Str.{bytes_eq}
+use Rattle.identifier.proofs.Comparing.{eq_name_is}
 use Rattle.std.specs.Prelude.{None, Some}
 use Rattle.definitions.specs.Name.{Name, eq_name}
 use Rattle.definitions.specs.Text.{occurs}
@@ -112,14 +114,14 @@ module _ (earlier : List (Bor (List ℕ))) (x : Name) (good : bad_names (names_o
   pub no_name : well_formed x ≡ false → false ≡ not (bad_names (with_name (names_of earlier) x))
   no_name h = rw (malformed (names_of earlier) x h) refl
 
-  pub judged_by : (r : Bool) → length earlier < 3 → well_formed x ≡ true → r ≡ list_any (λ (a : Bor (List ℕ)). eq_name a.now x) earlier
+  pub judged_by : (r : Bool) → length earlier < 3 → well_formed x ≡ true → r ≡ list_any (λ (a : Bor (List ℕ)). bytes_eq a.now x) earlier
       → not r ≡ not (bad_names (with_name (names_of earlier) x))
   judged_by r room formed any =
       rw (judged (names_of earlier) x good (omega (arith, length-map earlier (λ (a : Bor (List ℕ)). a.now))) formed, any, in_names earlier) refl
     where
-      in_names : (slices : List (Bor (List ℕ))) → list_any (λ (a : Bor (List ℕ)). eq_name a.now x) slices ≡ list_any (λ a. eq_name a x) (names_of slices)
+      in_names : (slices : List (Bor (List ℕ))) → list_any (λ (a : Bor (List ℕ)). bytes_eq a.now x) slices ≡ list_any (λ a. eq_name a x) (names_of slices)
       in_names [] = refl
-      in_names (a ∷ slices) = ap (λ t. eq_name a.now x || t) (in_names slices)
+      in_names (a ∷ slices) = rw (eq_name_is a.now x) (ap (λ t. bytes_eq a.now x || t) (in_names slices))
 
 -- what an iterator has given, and what it gives next
 module _ {S A B : Type 0} (steps : S → Option A → S → Type 0) (v : A → B) where

@@ -12,7 +12,7 @@ ghost use Rattle.exercises.specs.Sizes.{Few, size, CountOf, Located, Divided, co
 use definitions::{Reason, Refusal};
 use names::count_names;
 use output::{Counter, Sink, Writer};
-use prefix_code::{ATOM, Connective};
+use prefix_code::{ATOM, Connective, FALSE, TRUE};
 
 // At most so many connectives.
 const CONNECTIVE_LIMIT: usize = 3;
@@ -63,9 +63,9 @@ fn locate(names: usize, n: usize, ordinal: usize) -> Option<Place>
 // The left part's number of connectives, and the index of each part among those of as many.
 #[derive(Drop)]
 struct Parts {
-    pub size: usize,
-    pub left: usize,
-    pub right: usize,
+    size: usize,
+    left: usize,
+    right: usize,
 }
 
 // The parts of the proposition at an index among those of one root, the parts having k connectives together. It has no search in common
@@ -95,10 +95,10 @@ fn put_leaf<S: Sink<u8>>(sink: &mut S, names: usize, i: usize)
     requires { Few names 0 × (i < size names 0) }
     ensures { S.puts sink.old (code_at names 0 i) sink.new }
 {
-    if i < 2 {
-        sink.put(i as u8);
-    } else {
-        sink.put_all(&[ATOM, (i - 2) as u8, 0, 0]);
+    match i {
+        0 => sink.put(TRUE),
+        1 => sink.put(FALSE),
+        _ => sink.put_all(&[ATOM, (i - 2) as u8, 0, 0]),
     }
 }
 

@@ -1,16 +1,16 @@
-// A caller's names: pieces of some bytes, divided by newlines.
+// The names of an exercise: how many a caller's list has, and whether one may follow those before it.
 ghost use Rattle.std.specs.Prelude.{◌≡◌, not, false};
 ghost use Rattle.definitions.specs.CallerNames.{names_in};
 ghost use Rattle.definitions.specs.Exercises.{bad_names};
 ghost use Rattle.exercises.specs.Names.{names_of, with_name, count_of};
 
 use caller_names::{names_in, well_formed};
-use identifier::same_name;
 
 // At most so many names.
 const NAME_LIMIT: usize = 3;
 
 // Whether a name may stand behind those before it: there is room for it, it is one, and it differs from all of them.
+#[tactic(auto, using(crate::proofs::Counting::no_room, crate::proofs::Counting::no_name, crate::proofs::Counting::judged_by))]
 fn may_follow(earlier: &[&[u8]], name: &[u8]) -> bool
     ensures { bad_names (names_of earlier.now) ≡ false → result ≡ not (bad_names (with_name (names_of earlier.now) name.now)) }
 {
@@ -20,7 +20,7 @@ fn may_follow(earlier: &[&[u8]], name: &[u8]) -> bool
     if !well_formed(name) {
         return false;
     }
-    !earlier.iter().any(|other| same_name(other, name))
+    !earlier.contains(&name)
 }
 
 // How many names there are; none, if they are more than three, repeated or malformed.

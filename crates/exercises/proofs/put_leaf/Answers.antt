@@ -1,15 +1,16 @@
--- ⊤ and ⊥ are their ordinals; an atom is its number, which one byte holds.
+-- ⊤ and ⊥ come first; an atom is its number, which one byte holds.
 use native.Mathlib.Omega.{arith}
 use Rattle.exercises.proofs.Leaf.{leaves, constant, named}
 use Rattle.exercises.proofs.put_leaf.Goals as goal
 
-pub returns-then-i-lt2 : goal.returns-then-i-lt2
-returns-then-i-lt2 g c = rw (constant _ _ c.if-i-lt2.true) c.put.ensures
+pub returns-in-0 : goal.returns-in-0
+returns-in-0 g c = rw (constant c.args.names c.args.i (omega arith), c.in-0.is) c.put.ensures
 
-pub overflow_cast-i-else-i-lt2 : goal.overflow_cast-i-else-i-lt2
-overflow_cast-i-else-i-lt2 g c = let h = c.requires in omega (arith, h.0.names_few, h.1, leaves c.args.names)
+pub returns-in-1 : goal.returns-in-1
+returns-in-1 g c = rw (constant c.args.names c.args.i (omega arith), c.in-1.is) c.put-in-1.ensures
 
-pub returns-else-i-lt2 : goal.returns-else-i-lt2
-returns-else-i-lt2 g c =
-    let atom = named c.args.names c.args.i c.requires.0.names_few c.if-i-lt2.false c.requires.1 in
-    rw atom c.put_all.ensures
+pub overflow_cast-i : goal.overflow_cast-i
+overflow_cast-i g c = omega (arith, c.requires.0.names_few, c.requires.1, leaves c.args.names)
+
+pub returns-in_default : goal.returns-in_default
+returns-in_default g c = rw (named c.args.names c.args.i c.requires.0.names_few (omega arith) c.requires.1) c.put_all.ensures

@@ -11,8 +11,7 @@ use borrow.Author.Rules.{rules}
 use Rattle.std.proofs.Math.Seq.{take-suc-set}
 use Rattle.std.proofs.lemmas.Iterator.Consumers.{YieldsList-from_first, YieldsList-end}
 use Rattle.caller_names.specs.Left.{names_left}
-use Rattle.definitions.specs.CallerNames.{all_well_formed}
-use Rattle.definitions.specs.Exercises.{repeated, exercise_name_limit, bad_names}
+use Rattle.definitions.specs.Exercises.{bad_names}
 use Rattle.exercises.proofs.Counting.{next_given, refused, counted, verdict, room, names_more}
 use Rattle.exercises.specs.Names.{names_of, with_name}
 use Rattle.exercises.proofs.names.count_names.Goals as goal
