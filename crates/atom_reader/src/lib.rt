@@ -11,13 +11,13 @@ ghost use Rattle.std.proofs.lemmas.List.Edits.{sets};
 ghost use Rattle.words.specs.Places.{between};
 ghost use Rattle.words.specs.Names.{NamePlace};
 ghost use Rattle.words.specs.Table.{table_names};
-ghost use Rattle.prop_parts.specs.Found.{code_reach};
 ghost use Rattle.atom_reader.specs.Scope.{Binds};
 ghost use Rattle.atom_reader.specs.Reading.{Begins, parameters_from, ParameterAnswer, ParametersAnswer, atom_head, atom_from, PropAnswer};
 
-use output::store_u16;
+use output::sink::put_u16;
+use output::{Sink, Writer};
 use prefix_code::{ATOM, PARAMETER_LIMIT, STRONGEST};
-use prop_parts::{parameter_kind, put, put_parameter, read_name};
+use prop_parts::{parameter_kind, put_parameter, read_name};
 use words::{NameTable, expect};
 
 // Where the reading stands: in the text, under how many quantifiers, and in the code. The reader of terms has two of these numbers among
@@ -53,7 +53,6 @@ pub struct PropRead {
 // of such a struct a caller does not know at its end what the memories hold. `Begins` says of all of them at once what is required.
 
 // One parameter of an atom: a name, bound by a quantifier or not.
-#[tactic(auto, unfolding(definitions::specs::TermText::term_text_limit))]
 fn read_parameter(
     names: &mut NameTable,
     bound: &[u16],
@@ -141,12 +140,13 @@ fn atom_parameters(
 // What stands in the code of an atom before its parameters.
 #[tactic(auto, unfolding(crate::specs::Reading::atom_head, definitions::specs::Code::u16))]
 fn put_atom(code: &mut [u8], to: usize, number: u16, parameters: usize)
-    requires { (to < code_reach) × (parameters < 256) }
+    requires { parameters < 256 }
     ensures { code.new ≡ sets code.old to (atom_head number parameters) }
 {
-    put(code, to, ATOM);
-    store_u16(code, to + 1, number);
-    put(code, to + 3, parameters as u8);
+    let mut out = Writer { out: code, to };
+    out.put(ATOM);
+    put_u16(&mut out, number);
+    out.put(parameters as u8);
 }
 
 // An atom whose name ends at `end`.

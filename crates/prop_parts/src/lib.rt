@@ -1,15 +1,17 @@
 // The parts of a label's text and of its code: signs, connectives and names, and the bytes that stand for them.
-// Code is stored at a place of lent memory: it may be put in front of code that is stored (prop_frames), which an output's sink, which
-// only goes on, cannot do. What does not fit is dropped, and an empty memory is lent where nothing is to be stored.
+// Code is stored at a place of lent memory, by a writer that begins there: no one sink goes through a reading, since an atom's head is
+// stored once its parameters are (atom_reader), and a connective is put in front of its left side (prop_frames), and a sink only goes on.
+// What does not fit is dropped, and an empty memory is lent where nothing is to be stored.
 #![tactic(auto)]
 
 ghost use Rattle.std.specs.Prelude.{◌≡◌, ◌≤◌, ◌<◌, [], ◌∷◌, length, drop, eqb, None, MatchOption};
 ghost use Rattle.definitions.specs.Text.{occurs};
 ghost use Rattle.definitions.specs.TermReader.{sign, connective};
 ghost use Rattle.std.proofs.lemmas.List.Edits.{sets};
-ghost use Rattle.prop_parts.specs.Found.{code_reach, ConnectiveAt, constant_byte, opening_sign, sign_size, SignAt, NameLacks, NameGiven, bound_numbers, kind_of, ParameterPut};
+ghost use Rattle.prop_parts.specs.Found.{ConnectiveAt, constant_byte, opening_sign, sign_size, SignAt, NameLacks, NameGiven, bound_numbers, kind_of, ParameterPut};
 
-use output::{Sink, Writer, store_u16};
+use output::sink::put_u16;
+use output::{Sink, Writer};
 use prefix_code::{Connective, FALSE, ParameterKind, Quantifier, TRUE};
 use words::{NameTable, expect, name_end};
 
@@ -124,25 +126,18 @@ pub fn read_name(names: &mut NameTable, at: usize) -> Option<NameRead>
     Some(NameRead { end, number })
 }
 
-// Bytes of code from `to` on.
-fn store(code: &mut [u8], to: usize, bytes: &[u8])
-    ensures { code.new ≡ sets code.old to bytes.now }
-{
-    let mut writer = Writer { out: code, to };
-    writer.put_all(bytes);
-}
-
 // One byte.
 pub fn put(code: &mut [u8], to: usize, b: u8)
     ensures { code.new ≡ sets code.old to (b ∷ []) }
 {
-    store(code, to, &[b]);
+    Writer { out: code, to }.put(b);
 }
 
 // The kind of a parameter whose name has this number, where quantifiers bind names of these numbers.
 pub fn parameter_kind(bound: &[u16], number: usize) -> ParameterKind
     ensures { result ≡ kind_of (occurs eqb number (bound_numbers bound.now (length bound.now))) }
 {
+    // Any number may be asked of it, and `bound.contains` would ask for one of 16 bits.
     if bound.iter().any(|b| usize::from(*b) == number) {
         return ParameterKind::Uninstantiated;
     }
@@ -152,13 +147,13 @@ pub fn parameter_kind(bound: &[u16], number: usize) -> ParameterKind
 // The code of a parameter, instantiated with id 0 where it is not bound. Gives its size.
 #[tactic(auto, unfolding(crate::specs::Found::parameter_of, definitions::specs::Code::encode_parameter, definitions::specs::Code::u16))]
 pub fn put_parameter(code: &mut [u8], to: usize, number: u16, kind: ParameterKind) -> usize
-    requires { to < code_reach }
     ensures { ParameterPut kind number code.old to code.new result }
 {
-    put(code, to, kind.byte());
-    store_u16(code, to + 1, number);
+    let mut out = Writer { out: code, to };
+    out.put(kind.byte());
+    put_u16(&mut out, number);
     if kind == ParameterKind::Instantiated {
-        store_u16(code, to + 3, 0);
+        put_u16(&mut out, 0);
     }
     kind.size()
 }

@@ -39,10 +39,7 @@ few c =
     (omega (arith, given.few), omega (arith, given.small, given.within, c.number_of_name.new.self.table.short))
 
 pub put_atom-requires : goal.put_atom-requires
-unfolding term_text_limit
-put_atom-requires c =
-    let pre = c.requires.0 in
-    (omega (arith, pre.near, pre.within, c.args.names.now.table.short), (few (goal.at.put_atom-requires c).In_ok-read).0)
+put_atom-requires c = (few (goal.at.put_atom-requires c).In_ok-read).0
 
 pub overflow_add-result : goal.overflow_add-result
 overflow_add-result c = omega (arith, (few (goal.at.overflow_add-result c).In_ok-read).1)
