@@ -19,8 +19,9 @@ ghost use Rattle.prop_frames.specs.Fronts.{Part, Front, front_sign, part_least, 
 ghost use Rattle.prop_frames.specs.Sides.{GoesOnAt, sides_agree, inserted, Joinable, Joins};
 
 use atom_reader::{Place, PropRead};
-use output::store_u16;
-use prefix_code::{Connective, FALSE, IMPL, Quantifier, STRONGEST, WEAKEST};
+use output::sink::put_u16;
+use output::{Sink, Writer};
+use prefix_code::{Connective, FALSE, Quantifier, STRONGEST, WEAKEST};
 use prop_parts::{CONSTANT_SIZE, Constant, Opening, connective_at, put, read_name};
 use words::{NameTable, expect};
 
@@ -56,13 +57,13 @@ fn binder_names(names: &mut NameTable, at: usize) -> Option<BinderRead>
 // What stands in the code of a quantifier before its part.
 #[tactic(auto, unfolding(crate::specs::Fronts::binder_code, definitions::specs::Code::u16))]
 fn put_binder(code: &mut [u8], to: usize, quantifier: Quantifier, object: u16, datatype: u16)
-    requires { to < code_reach }
     ensures { code.new ≡ sets code.old to
         (binder_code (quantifier_byte (quantifier_meant quantifier)) object datatype) }
 {
-    put(code, to, quantifier.byte());
-    store_u16(code, to + 1, object);
-    store_u16(code, to + 3, datatype);
+    let mut out = Writer { out: code, to };
+    out.put(quantifier.byte());
+    put_u16(&mut out, object);
+    put_u16(&mut out, datatype);
 }
 
 // What stands before a part: the sign at `p` and what belongs to it. Gives the place of the part.
@@ -86,7 +87,7 @@ pub fn open_front(
     match sign {
         Opening::Bracket => Some(Place { at, ..p }),
         Opening::Negation => {
-            put(code, to, IMPL);
+            put(code, to, Connective::Impl.byte());
             Some(Place {
                 at,
                 to: to + 1,

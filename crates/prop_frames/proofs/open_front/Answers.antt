@@ -5,7 +5,7 @@ use Rattle.std.specs.Prelude.{None}
 use native.Mathlib.Omega.{arith}
 use lib.ListN.{length}
 use borrow.Author.Rules.{rules}
-use Rattle.definitions.specs.TermText.{term_text_limit}
+use Rattle.definitions.specs.Prop.{connective_byte}
 use Rattle.prop_frames.proofs.Binders.{opens_bracket, opens_negation, opens_not, opens_quantifier}
 use Rattle.prop_frames.proofs.open_front.Goals as goal
 use Rattle.prop_frames.proofs.open_front.Goals.{After-size}
@@ -20,9 +20,10 @@ returns-in-Bracket c ns b =
     (opens_bracket b c.requires.begins (rw c.in-Bracket.is at (ap (λ n. c.args.p.at + n) c.size.ensures)) (after_within (goal.at.returns-in-Bracket c).After-size))
 
 pub returns-in-Negation : goal.returns-in-Negation
+unfolding connective_byte
 returns-in-Negation c ns b =
     rw c.in-Negation.is
-    (opens_negation b c.requires.begins (rw c.in-Negation.is at (ap (λ n. c.args.p.at + n) c.size.ensures)) (after_within (goal.at.returns-in-Negation c).After-size) c.put.ensures)
+    (opens_negation b c.requires.begins (rw c.in-Negation.is at (ap (λ n. c.args.p.at + n) c.size.ensures)) (after_within (goal.at.returns-in-Negation c).After-size) (rw c.byte.ensures at c.put.ensures))
 
 pub binder_names-requires : goal.binder_names-requires
 binder_names-requires c = after_within (goal.at.binder_names-requires c).After-size
