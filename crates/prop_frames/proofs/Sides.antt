@@ -28,15 +28,15 @@ module _ (text : List ℕ) (at least : ℕ) where
   unfolding goes_on strong_enough
   none_there e = rw e refl
 
-  kept_if : (c : read.Connective) → ConnectiveAt text at c → (b : Bool) → b ≡ leb least (connective_precedence (meant c)) →
+  kept_if : (c : read.Connective × ℕ) → ConnectiveAt text at c → (b : Bool) → b ≡ leb least (connective_precedence (meant c.0)) →
       MatchOption (then_some b c) (goes_on least (drop at text) ≡ None) (GoesOnAt text at least)
   unfolding goes_on strong_enough
-  kept_if c there true e = record { within = there.within; reads = rw (there.reads, sym e) refl }
+  kept_if c there true e = record { end_is = there.end_is; within = there.within; reads = rw (there.reads, sym e) refl }
   kept_if c there false e = rw (there.reads, sym e) refl
 
-  pub filtered : (test : read.Connective → Bool → Type 0)
-      → ((c : read.Connective) (b : Bool) → test c b → b ≡ leb least (connective_precedence (meant c)))
-      → (found kept : Option read.Connective)
+  pub filtered : (test : read.Connective × ℕ → Bool → Type 0)
+      → ((c : read.Connective × ℕ) (b : Bool) → test c b → b ≡ leb least (connective_precedence (meant c.0)))
+      → (found kept : Option (read.Connective × ℕ))
       → MatchOption found (connective (drop at text) ≡ None) (ConnectiveAt text at)
       → MatchOption found (kept ≡ None) (λ c. (b : Bool) × test c b × (kept ≡ then_some b c))
       → MatchOption kept (goes_on least (drop at text) ≡ None) (GoesOnAt text at least)

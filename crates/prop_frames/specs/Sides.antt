@@ -12,10 +12,11 @@ use Rattle.prop_parts.specs.Found.{code_reach}
 use Rattle.atom_reader.specs.declared.PropRead.{PropRead}
 use Rattle.atom_reader.specs.Reading.{Measured}
 
--- the connective at a place that binds at least so strongly
-pub record GoesOnAt (text : List ℕ) (at least : ℕ) (c : read.Connective) : Type 0 where
-  pub within : at + 5 ≤ length text
-  pub reads : goes_on least (drop at text) ≡ given (meant c) (drop (at + 5) text)
+-- the connective at a place that binds at least so strongly, and where it ends
+pub record GoesOnAt (text : List ℕ) (at least : ℕ) (r : read.Connective × ℕ) : Type 0 where
+  pub end_is : r.1 ≡ at + 5
+  pub within : r.1 ≤ length text
+  pub reads : goes_on least (drop at text) ≡ given (meant r.0) (drop r.1 text)
 
 -- whether both sides stand in the brackets that are due, and this is no negation
 unfoldable pub sides_agree : Connective → Shown (Prop Name) → Shown (Prop Name) → Bool

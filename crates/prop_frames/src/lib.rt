@@ -191,12 +191,12 @@ pub fn read_constant(text: &[u8], code: &mut [u8], p: Place, sign: Constant) -> 
     }
 }
 
-// The connective at `at` that binds at least so strongly.
-pub fn goes_on(text: &[u8], at: usize, least: usize) -> Option<Connective>
+// The connective at `at` that binds at least so strongly, and where it ends.
+pub fn goes_on(text: &[u8], at: usize, least: usize) -> Option<(Connective, usize)>
     requires { at ≤ length text.now }
     ensures { MatchOption result (goes_on least (drop at text.now) ≡ None) (GoesOnAt text.now at least) }
 {
-    connective_at(text, at).filter(|connective| least <= connective.strength())
+    connective_at(text, at).filter(|found| least <= found.0.strength())
 }
 
 // Whether a connective may join these sides: they stand in the brackets that are due, and this is no negation.

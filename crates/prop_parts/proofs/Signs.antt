@@ -7,6 +7,7 @@ use Rattle.std.specs.Prelude.{Option, None, Some, MatchOption, is_some}
 use mathlib.Core.List.{List, [], ◌∷◌}
 use lib.ListN.{length, drop}
 use Rattle.std.specs.List.{AllWithin, HoldsAt}
+use Rattle.std.specs.Option.{IsSomeAnd}
 use Rattle.definitions.specs.Utf8.{utf8}
 use Rattle.definitions.specs.Display.{connective_text}
 use Rattle.definitions.specs.Code.{yield}
@@ -24,18 +25,18 @@ use Rattle.prop_parts.specs.Found.{ConnectiveAt, sign_size, SignAt}
 
 -- Each connective in turn: none of those before it stands there.
 module _ {text : List ℕ} {at : ℕ} where
-  pub and_found : Expected (utf8 " ∧ ") text at (at + 5) → ConnectiveAt text at And
+  pub and_found : Expected (utf8 " ∧ ") text at (at + 5) → ConnectiveAt text at (And, at + 5)
   unfolding connective or_read means if_read yield
-  and_found there = record { within = there.within; reads = rw there.reads }
+  and_found there = record { end_is = refl; within = there.within; reads = rw there.reads }
 
-  pub or_found : expect (utf8 " ∧ ") (drop at text) ≡ None → Expected (utf8 " ∨ ") text at (at + 5) → ConnectiveAt text at Or
+  pub or_found : expect (utf8 " ∧ ") (drop at text) ≡ None → Expected (utf8 " ∨ ") text at (at + 5) → ConnectiveAt text at (Or, at + 5)
   unfolding connective or_read means if_read yield
-  or_found e₀ there = record { within = there.within; reads = rw (e₀, there.reads) }
+  or_found e₀ there = record { end_is = refl; within = there.within; reads = rw (e₀, there.reads) }
 
   pub impl_found : expect (utf8 " ∧ ") (drop at text) ≡ None → expect (utf8 " ∨ ") (drop at text) ≡ None
-      → Expected (utf8 " ⊃ ") text at (at + 5) → ConnectiveAt text at Impl
+      → Expected (utf8 " ⊃ ") text at (at + 5) → ConnectiveAt text at (Impl, at + 5)
   unfolding connective or_read means if_read yield
-  impl_found e₀ e₁ there = record { within = there.within; reads = rw (e₀, e₁, there.reads) }
+  impl_found e₀ e₁ there = record { end_is = refl; within = there.within; reads = rw (e₀, e₁, there.reads) }
 
 pub none_found : (text : List ℕ) (at : ℕ) → expect (utf8 " ∧ ") (drop at text) ≡ None → expect (utf8 " ∨ ") (drop at text) ≡ None
     → expect (utf8 " ⊃ ") (drop at text) ≡ None → connective (drop at text) ≡ None
@@ -69,7 +70,11 @@ module _ (text : List ℕ) (at : ℕ) where
   pub is_missing : (k : Connective) {bytes : List ℕ} (o : Option ℕ) → bytes ≡ connective_text (meant k) → Looked bytes o → false ≡ is_some o → Lacks k
   is_missing k o same looked lost = rw same at (stands_not _ text at o looked (sym lost))
 
-  pub first_stands : (k : Connective) → Stands k → (i : ℕ) → i < 3 → HoldsAt (λ y. y ≡ k) connectives i → AllWithin Lacks connectives 0 i → ConnectiveAt text at k
+  -- where it ends
+  pub at_its_end : (k : Connective) {bytes : List ℕ} {s : Connective × ℕ} → bytes ≡ connective_text (meant k) → s ≡ (k, at + length bytes) → s ≡ (k, at + 5)
+  at_its_end k same e = rw (same, size_is k) at e
+
+  pub first_stands : (k : Connective) → Stands k → (i : ℕ) → i < 3 → HoldsAt (λ y. y ≡ k) connectives i → AllWithin Lacks connectives 0 i → ConnectiveAt text at (k, at + 5)
   unfolding connective_text
   first_stands And there i few here before = and_found there
   first_stands Or there zero few here before = absurd (grind (arith, here And))
@@ -87,9 +92,18 @@ module _ (text : List ℕ) (at : ℕ) where
   pub found_is : (o : Option Connective)
       → MatchOption o (AllWithin Lacks connectives 0 3)
       (λ k. Stands k × (i : ℕ) × (i < 3) × HoldsAt (λ y. y ≡ k) connectives i × AllWithin Lacks connectives 0 i)
-      → MatchOption o (connective (drop at text) ≡ None) (ConnectiveAt text at)
+      → MatchOption o (connective (drop at text) ≡ None) (λ k. ConnectiveAt text at (k, at + 5))
   found_is None all = none_stands all
   found_is (Some k) first = first_stands k first.0 first.1 first.2 first.3 first.4
+
+  -- and with it goes where it ends
+  pub ends_found : (gives : Connective → Connective × ℕ → Type 0) (o : Option Connective) (r : Option (Connective × ℕ))
+      → MatchOption o (r ≡ None) (λ k. IsSomeAnd r (gives k)) → ((k : Connective) (s : Connective × ℕ) → gives k s → s ≡ (k, at + 5))
+      → MatchOption o (connective (drop at text) ≡ None) (λ k. ConnectiveAt text at (k, at + 5))
+      → MatchOption r (connective (drop at text) ≡ None) (ConnectiveAt text at)
+  ends_found gives None r is says none = rw is none
+  ends_found gives (Some k) None gave says there = absurd gave
+  ends_found gives (Some k) (Some s) gave says there = rw (says k s gave) there
 
 -- Each sign in turn.
 module _ {text : List ℕ} {at : ℕ} where

@@ -28,10 +28,11 @@ use Rattle.prop_parts.specs.declared.Sign.TheVariants as read
 abbrev pub code_reach : ℕ
 code_reach = 200000
 
--- the connective at a place
-pub record ConnectiveAt (text : List ℕ) (at : ℕ) (c : Connective) : Type 0 where
-  pub within : at + 5 ≤ length text
-  pub reads : connective (drop at text) ≡ given (meant c) (drop (at + 5) text)
+-- the connective at a place, and where it ends
+pub record ConnectiveAt (text : List ℕ) (at : ℕ) (r : Connective × ℕ) : Type 0 where
+  pub end_is : r.1 ≡ at + 5
+  pub within : r.1 ≤ length text
+  pub reads : connective (drop at text) ≡ given (meant r.0) (drop r.1 text)
 
 -- a sign as the program names it
 abbrev pub constant_sign : Constant → reader.Sign

@@ -37,9 +37,6 @@ pub enum Sign {
     Opening(Opening),
 }
 
-// The bytes of a connective with its blanks.
-pub const CONNECTIVE_SIZE: usize = 5;
-
 // A name that was read: where it ends, and its number.
 #[derive(Clone, Copy)]
 pub struct NameRead {
@@ -47,8 +44,8 @@ pub struct NameRead {
     pub number: u16,
 }
 
-// The connective at `at`.
-pub fn connective_at(text: &[u8], at: usize) -> Option<Connective>
+// The connective at `at`, and where it ends.
+pub fn connective_at(text: &[u8], at: usize) -> Option<(Connective, usize)>
     requires { at ≤ length text.now }
     ensures { MatchOption result (connective (drop at text.now) ≡ None) (ConnectiveAt text.now at) }
 {
@@ -56,6 +53,7 @@ pub fn connective_at(text: &[u8], at: usize) -> Option<Connective>
         .iter()
         .copied()
         .find(|c| expect(text, at, c.text()).is_some())
+        .map(|c| (c, at + c.text().len()))
 }
 
 // The signs, each behind its bytes. Those of ∀ and ∃ are those of `Quantifier::sign`, which the value of a static cannot call.

@@ -167,22 +167,22 @@ module _ {names : List Name} {held : NameTable} {bound code : List ℕ} {after :
 
   -- where the right side may begin
   pub right_begins : Begins held bound p levels 0 → Binds names (table_names held) bound p.depth → (levels ≡ 0 → ⊥)
-      → length bound' ≡ length bound → left.end + 5 ≤ length held.text.now
-      → Begins after bound' (record { at = left.end + 5; depth = p.depth; to = p.to + left.size }) (levels - 1) 0
-  right_begins pre b deep long h = record {
+      → length bound' ≡ length bound → {next : ℕ} → next ≡ left.end + 5 → next ≤ length held.text.now
+      → Begins after bound' (record { at = next; depth = p.depth; to = p.to + left.size }) (levels - 1) 0
+  right_begins pre b deep long e h = record {
     within = rw j.read.noted.same_text h;
     near = omega (arith, pre.near, j.read.small);
     deep = omega (arith, pre.deep, deep, long);
     binds = (names, binds_noted b j.read.noted j.bound_kept);
   }
 
-  module _ (some_left : 0 < most) {c : Connective} (goes : goes_on least (drop left.end held.text.now) ≡ given c (drop (left.end + 5) held.text.now))
+  module _ (some_left : 0 < most) {c : Connective} {next : ℕ} (next_is : next ≡ left.end + 5) (goes : goes_on least (drop left.end held.text.now) ≡ given c (drop next held.text.now))
       {asked : ℕ} (asked_is : asked ≡ right_least c) where
     -- the answer of the reader of the right side
     abbrev Right : ℕ → NameTable → List ℕ → List ℕ → Option PropRead → Type 0
     Right least after₂ bound₂ code₂ right =
-        PropAnswer (read_prop (levels - 1) least names (drop (left.end + 5) after.text.now)) after bound' code'
-        (record { at = left.end + 5; depth = p.depth; to = p.to + left.size }) after₂ bound₂ code₂ right
+        PropAnswer (read_prop (levels - 1) least names (drop next after.text.now)) after bound' code'
+        (record { at = next; depth = p.depth; to = p.to + left.size }) after₂ bound₂ code₂ right
 
     abbrev Whole : NameTable → List ℕ → List ℕ → Option PropRead → Type 0
     Whole after₂ bound₂ code₃ whole = PropAnswer (read_prop levels least names (drop p.at held.text.now)) held bound code p after₂ bound₂ code₃ whole
@@ -198,7 +198,7 @@ module _ {names : List Name} {held : NameTable} {bound code : List ℕ} {after :
           rw (j.reads, more)
           (joined_right (read_prop (levels - 1)) names (table_names held) (most - 1) least (standing left.own j.prop) _ _ c goes
           (rw j.read.noted.names at
-          (gives_at (read_prop (levels - 1) (right_least c) names) (left.end + 5) _ j.read.noted.same_text (answer read).answer)));
+          (gives_at (read_prop (levels - 1) (right_least c) names) next _ j.read.noted.same_text (answer read).answer)));
       bound_kept = read.bound_kept ∙ j.bound_kept;
     }
 
@@ -216,7 +216,7 @@ module _ {names : List Name} {held : NameTable} {bound code : List ℕ} {after :
             right_shallow = omega (arith, short, within, read.small, read.measured.size_is, read.measured.nesting_is, nesting_code q);
           }
 
-      steps : (q : Prop Name) → read_prop (levels - 1) (right_least c) names (drop (left.end + 5) held.text.now) ≡ given (standing right.own q) (drop right.end held.text.now)
+      steps : (q : Prop Name) → read_prop (levels - 1) (right_least c) names (drop next held.text.now) ≡ given (standing right.own q) (drop right.end held.text.now)
           → read_prop levels least names (drop p.at held.text.now)
           ≡ cond (sides_agree c (standing left.own j.prop) (standing right.own q))
           (joined (read_prop (levels - 1)) names (most - 1) least (standing false (Binary c j.prop q)) (drop right.end held.text.now)) None
@@ -226,9 +226,9 @@ module _ {names : List Name} {held : NameTable} {bound code : List ℕ} {after :
           j.reads ∙ (ap (λ n. joined (read_prop (levels - 1)) names n least (standing left.own j.prop) (drop left.end held.text.now)) more ∙ joined_step (read_prop (levels - 1)) names (most - 1) least (standing left.own j.prop) (standing right.own q) _ _ _ c goes reads)
 
       -- the right side is read from the same text
-      same_reads : (q : Prop Name) → read_prop (levels - 1) (right_least c) names (drop (left.end + 5) after.text.now) ≡ given (standing right.own q) (drop right.end after.text.now)
-          → read_prop (levels - 1) (right_least c) names (drop (left.end + 5) held.text.now) ≡ given (standing right.own q) (drop right.end held.text.now)
-      same_reads q = reads_at (read_prop (levels - 1) (right_least c) names) (left.end + 5) right.end (standing right.own q) j.read.noted.same_text
+      same_reads : (q : Prop Name) → read_prop (levels - 1) (right_least c) names (drop next after.text.now) ≡ given (standing right.own q) (drop right.end after.text.now)
+          → read_prop (levels - 1) (right_least c) names (drop next held.text.now) ≡ given (standing right.own q) (drop right.end held.text.now)
+      same_reads q = reads_at (read_prop (levels - 1) (right_least c) names) next right.end (standing right.own q) j.read.noted.same_text
 
       module _ {code₃ : List ℕ} where
         pub joining_not : ((q : Prop Name) → Measured right q → Joins c j.prop q held.text.now code₂ p.to left right code₃ None) → Whole after₂ bound₂ code₃ None

@@ -52,12 +52,12 @@ module _ {text : List ℕ} {at end : ℕ} (ends : NameEnds text at end) where
   pub lone_bracket : {after : ℕ} → Expected (utf8 "(") text end after → LoneLacks text at
   lone_bracket found a s e f g = none-some _ (sym (rw (rest_is e) at f) ∙ found.reads)
 
-  pub lone_connective : (o : Option read.Connective) → MatchOption o (connective (drop end text) ≡ None) (ConnectiveAt text end)
+  pub lone_connective : (o : Option (read.Connective × ℕ)) → MatchOption o (connective (drop end text) ≡ None) (ConnectiveAt text end)
       → is_some o ≡ true → LoneLacks text at
   lone_connective None none h = absurd (true≢false (sym h))
   lone_connective (Some k) found h = λ a s e f g. none-some _ (sym (rw (rest_is e) at g) ∙ found.reads)
 
-  pub lone_there : (o : Option read.Connective) → MatchOption o (connective (drop end text) ≡ None) (ConnectiveAt text end)
+  pub lone_there : (o : Option (read.Connective × ℕ)) → MatchOption o (connective (drop end text) ≡ None) (ConnectiveAt text end)
       → is_some o ≡ false → expect (utf8 "(") (drop end text) ≡ None → LoneEnds text at end
   lone_there None none h no_bracket = record {
     within = ends.within;

@@ -18,7 +18,7 @@ use caller_names::is_listed;
 use prefix_code::{CODE_LIMIT, NESTING_LIMIT};
 use proof_term::Label;
 use prop_frames::{close_prop, goes_on, join, open_front, part_least, read_constant};
-use prop_parts::{CONNECTIVE_SIZE, Sign, connective_at, sign_at};
+use prop_parts::{Sign, connective_at, sign_at};
 use words::{NameTable, expect, name_end};
 
 // Twice as many levels as a proposition may nest: brackets take one.
@@ -82,11 +82,11 @@ fn read_prop(
     let depth = p.depth;
     let mut left = read_unit(names, bound, code, p, levels - 1)?;
     for _ in 1..levels {
-        let Some(connective) = goes_on(text, left.end, least) else {
+        let Some((connective, at)) = goes_on(text, left.end, least) else {
             return Some(left);
         };
         let place = Place {
-            at: left.end + CONNECTIVE_SIZE,
+            at,
             depth,
             to: to + left.size,
         };

@@ -47,22 +47,16 @@ read_prop-returns-in_default t c ns b =
 right_place : (t : ℕ) → (c : read_prop-In-Some t) → let loop = c.loop in
     let s = c.args in
     Begins loop.names loop.bound
-    (record { at = loop.left.end + 5; depth = s.p.depth; to = s.p.to + loop.left.size }) (s.levels - 1) 0
+    (record { at = c.in-Some.at; depth = s.p.depth; to = s.p.to + loop.left.size }) (s.levels - 1) 0
 right_place t c =
     let (ns, b) = c.requires.binds in
     right_begins (so_far t (goal.at.read_prop-In-Some t c).At-loop ns b) c.requires b c.if-levels-eq0.false
-    (c.loop.invariant.bound_long ∙ c.read_unit.auto.bound) c.in-Some.ensures.within
+    (c.loop.invariant.bound_long ∙ c.read_unit.auto.bound) c.in-Some.ensures.end_is c.in-Some.ensures.within
 
 pub read_prop-overflow_add-place : goal.read_prop-overflow_add-place
 unfolding term_text_limit
 read_prop-overflow_add-place t c =
     let place = right_place t (goal.at.read_prop-overflow_add-place t c).In-Some in
-    omega (arith, place.within, c.loop.names.table.short)
-
-pub read_prop-overflow_add-place-in-loop : goal.read_prop-overflow_add-place-in-loop
-unfolding term_text_limit
-read_prop-overflow_add-place-in-loop t c =
-    let place = right_place t (goal.at.read_prop-overflow_add-place-in-loop t c).In-Some in
     omega (arith, place.near, place.within, c.loop.names.table.short)
 
 pub read_prop-read_prop-requires : goal.read_prop-read_prop-requires
@@ -72,18 +66,18 @@ read_prop-read_prop-requires t c =
 pub read_prop-returns-in_err-right : goal.read_prop-returns-in_err-right
 read_prop-returns-in_err-right t c ns b =
     let j = so_far t (goal.at.read_prop-returns-in_err-right t c).At-loop ns b in
-    rw c.from_residual-in_err-right.ensures (right_not j (omega (arith, c.loop-test.true)) c.in-Some.ensures.reads c.right_least-asked.ensures.is (c.in_err-right.ensures ns (binds_noted b j.read.noted j.bound_kept)))
+    rw c.from_residual-in_err-right.ensures (right_not j (omega (arith, c.loop-test.true)) c.in-Some.ensures.end_is c.in-Some.ensures.reads c.right_least-asked.ensures.is (c.in_err-right.ensures ns (binds_noted b j.read.noted j.bound_kept)))
 
 pub read_prop-join-requires : goal.read_prop-join-requires
 read_prop-join-requires t c =
     let (ns, b) = c.requires.binds in
     let j = so_far t (goal.at.read_prop-join-requires t c).At-loop ns b in
-    joinable j (omega (arith, c.loop-test.true)) c.in-Some.ensures.reads c.right_least-asked.ensures.is (c.in_ok-right.ensures ns (binds_noted b j.read.noted j.bound_kept)) c.requires
+    joinable j (omega (arith, c.loop-test.true)) c.in-Some.ensures.end_is c.in-Some.ensures.reads c.right_least-asked.ensures.is (c.in_ok-right.ensures ns (binds_noted b j.read.noted j.bound_kept)) c.requires
 
 pub read_prop-returns-in_err-left-2 : goal.read_prop-returns-in_err-left-2
 read_prop-returns-in_err-left-2 t c ns b =
     let j = so_far t (goal.at.read_prop-returns-in_err-left-2 t c).At-loop ns b in
-    rw c.from_residual-in_err-left-2.ensures (joining_not j (omega (arith, c.loop-test.true)) c.in-Some.ensures.reads c.right_least-asked.ensures.is (c.in_ok-right.ensures ns (binds_noted b j.read.noted j.bound_kept))
+    rw c.from_residual-in_err-left-2.ensures (joining_not j (omega (arith, c.loop-test.true)) c.in-Some.ensures.end_is c.in-Some.ensures.reads c.right_least-asked.ensures.is (c.in_ok-right.ensures ns (binds_noted b j.read.noted j.bound_kept))
     (λ q m. c.in_err-left-2.ensures j.prop q j.read.measured m))
 
 pub read_prop-loop-preserved : goal.read_prop-loop-preserved
@@ -101,7 +95,7 @@ read_prop-loop-preserved t c =
       keeps = λ ns held₀ bound₀ code₀ at same b j₀.
           let j = inv.keeps ns held₀ bound₀ code₀ at same b j₀ in
           rw (← one_less)
-          (joining_on j (omega (arith, c.loop-test.true)) (reads_at (goes_on c.args.least) _ _ _ (sym same) c.in-Some.ensures.reads) c.right_least-asked.ensures.is
+          (joining_on j (omega (arith, c.loop-test.true)) c.in-Some.ensures.end_is (reads_at (goes_on c.args.least) _ _ _ (sym same) c.in-Some.ensures.reads) c.right_least-asked.ensures.is
           (c.in_ok-right.ensures ns (binds_noted b j.read.noted j.bound_kept))
           (λ q m. joins_at (sym same) (c.in_ok-left-2.ensures j.prop q j.read.measured m)));
     }
