@@ -1,9 +1,9 @@
 -- How deep a proposition nests, by its head and its parts.
-use Prim.Native.Nat.{ℕ, zero, suc, ◌-◌, ◌≤◌, ◌<◌}
+use Prim.Native.Nat.{ℕ, zero, suc, ◌-◌, ◌<◌}
 use mathlib.Core.Path.{◌≡◌}
 use mathlib.Core.List.{List}
 use native.Mathlib.Omega.{arith}
-use lib.ListN.{length, get_or}
+use lib.ListN.{get_or}
 use Rattle.definitions.specs.Prop.{nesting}
 use Rattle.definitions.specs.Code.{Codable}
 use Rattle.definitions.proofs.Shape.{nests}

@@ -84,7 +84,8 @@ pub fn sign_at(text: &[u8], at: usize) -> Option<Sign>
         .map(|row| row.1)
 }
 
-// The bytes of ⊤ and of ⊥.
+// The bytes of ⊤ and of ⊥. Their size and that of an `Opening` stand apart from `sign_at`: `open_front` and `read_constant` of prop_frames
+// are given the place of a sign, by which their code is measured, and would take its end as one parameter more.
 pub const CONSTANT_SIZE: usize = 3;
 
 impl Constant {

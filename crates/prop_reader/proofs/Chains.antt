@@ -176,7 +176,8 @@ module _ {names : List Name} {held : NameTable} {bound code : List ℕ} {after :
     binds = (names, binds_noted b j.read.noted j.bound_kept);
   }
 
-  module _ (some_left : 0 < most) {c : Connective} {next : ℕ} (next_is : next ≡ left.end + 5) (goes : goes_on least (drop left.end held.text.now) ≡ given c (drop next held.text.now))
+  module _ (some_left : 0 < most) {c : Connective} {next : ℕ} (next_is : next ≡ left.end + 5)
+      (goes : goes_on least (drop left.end held.text.now) ≡ given c (drop next held.text.now))
       {asked : ℕ} (asked_is : asked ≡ right_least c) where
     -- the answer of the reader of the right side
     abbrev Right : ℕ → NameTable → List ℕ → List ℕ → Option PropRead → Type 0

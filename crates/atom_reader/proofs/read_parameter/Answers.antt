@@ -3,7 +3,6 @@ use mathlib.Core.Path.{◌≡◌}
 use native.Mathlib.Omega.{arith}
 use Rattle.std.specs.Prelude.{None}
 use borrow.Author.Rules.{rules}
-use Rattle.definitions.specs.TermText.{term_text_limit}
 use Rattle.atom_reader.proofs.Parameters.{parameter_not, parameter_given}
 use Rattle.atom_reader.proofs.read_parameter.Goals as goal
 

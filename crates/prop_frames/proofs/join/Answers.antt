@@ -1,5 +1,4 @@
 -- The sides agree, and then the connective is put in front of their code.
-use mathlib.Core.Path.{sym, ◌∙◌}
 use borrow.Author.Rules.{rules}
 use Rattle.prop_frames.proofs.Sides.{joins_sides}
 use Rattle.prop_frames.proofs.join.Goals as goal

@@ -51,6 +51,6 @@ module _ (text : List ℕ) (at : ℕ) (le : at ≤ length text) (p q r s t u : B
 pub returns : goal.returns
 returns c =
     let first = find_from_yields_List (λ row. starts_with eqb (take (length c.args.text.now - c.args.at) (drop c.args.at c.args.text.now)) row.0.now) _ _ c.find.result c.find.ensures.ran
-        (YieldsList-from_slice _ c.iter.ensures.rest) (λ x b q k. search (rules, tests)) in
+    (YieldsList-from_slice _ c.iter.ensures.rest) (λ x b q k. search (rules, tests)) in
     let is = mapped_row _ (λ (row : Row). row.1) c.find.result c.map.result c.map.ensures.cases (λ row s gives. search rules) ∙ ap (option_map (λ (row : Row). row.1)) first in
     rw is (first_sign c.args.text.now c.args.at c.requires _ _ _ _ _ _ _ _ _ _ _ _ refl refl refl refl refl refl)

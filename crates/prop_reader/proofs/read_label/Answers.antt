@@ -1,6 +1,5 @@
 -- A lone listed name is a datatype, and anything else a proposition.
 use mathlib.Core.Path.{sym, ◌∙◌}
-use native.Mathlib.Omega.{arith}
 use Rattle.words.specs.Places.{between}
 use Rattle.prop_reader.proofs.Labels.{other_unlisted, lone_place, lone_unlisted, lone_listed, proposition_label}
 use Rattle.prop_reader.proofs.read_label.Goals as goal
