@@ -20,7 +20,7 @@ use equal_conclusions::{NumberedSheets, same_conclusion};
 use merged_names::{IndexedSheets, fill_numbers, index_names};
 use merged_sheet::merge;
 use name_index::{SLOT_COUNT, build};
-use sheet::{AdmittedSheet, Sheet, SizedSheet, vocabulary};
+use sheet::{AdmittedSheet, Sheet, SizedSheet};
 use steps::{Rule, premiss_count, rule_byte};
 use vocabulary::Memory;
 
@@ -153,7 +153,7 @@ fn graft_indexed(
     let m = graft_accepted(host, k, donor, out)?;
     let merged = Memory {
         bytes: out,
-        vocabulary: vocabulary(m),
+        vocabulary: m.vocabulary(),
     };
     build(slots, &merged);
     Ok(m.layout().end)

@@ -2,11 +2,12 @@
 ghost use Rattle.std.specs.Prelude.{◌*◌, ◌<◌, ◌≡◌, List, ℕ, Some, Err, MatchResult};
 ghost use Rattle.reader.specs.Reading.{number_after};
 ghost use Rattle.definitions.specs.Sheet.{header_out_of_range};
-ghost use Rattle.sheet.specs.Header.{header_of, InRange, layout_of};
+ghost use Rattle.sheet.specs.Header.{header_of, InRange, layout_of, vocabulary_of};
 ghost use Rattle.sheet.specs.Checks.{answered, short_check};
 
 use definitions::{Reason, Refusal};
 use reader::header_number;
+use vocabulary::Vocabulary;
 
 // The six header numbers: T, N, C, P, S and the goal. The `header_of` any bytes is one, and so is what two of them add up to, in the
 // ranges or not: `InRange` is asked for where the numbers are reckoned with or written. A second type for those in their ranges would
@@ -100,8 +101,8 @@ impl Sheet {
         Self::TEXT_LIMIT < self.text_length
             || Self::NAME_LIMIT < self.names
             || Self::CODE_LIMIT < self.code_length
-            || (self.propositions < 1 || Self::PROPOSITION_LIMIT < self.propositions)
-            || (self.steps < 1 || Self::STEP_LIMIT < self.steps)
+            || !(1..=Self::PROPOSITION_LIMIT).contains(&self.propositions)
+            || !(1..=Self::STEP_LIMIT).contains(&self.steps)
             || self.propositions <= self.goal
     }
 
@@ -121,6 +122,23 @@ impl Sheet {
             text,
             code,
             end: code + self.code_length,
+        }
+    }
+
+    // Where the names and the code of a sheet with this header lie.
+    #[tactic(auto, unfolding(crate::specs::Header::vocabulary_of, definitions::specs::Sheet::header_size))]
+    pub fn vocabulary(self) -> Vocabulary
+        requires { InRange self }
+        ensures { result ≡ vocabulary_of self }
+    {
+        let layout = self.layout();
+        Vocabulary {
+            name_count: self.names,
+            pairs: Self::HEADER_SIZE,
+            text: layout.text,
+            text_length: self.text_length,
+            code: layout.code,
+            code_length: self.code_length,
         }
     }
 }

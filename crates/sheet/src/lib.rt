@@ -19,7 +19,7 @@ pub use admitted_sheet::AdmittedSheet;
 use definitions::{Reason, Refusal};
 pub use header::{Layout, Sheet};
 pub use pairs::{first_bad_code, first_bad_name, first_bad_pair, first_deep_proposition};
-pub use parts::{HeadedSheet, vocabulary};
+pub use parts::HeadedSheet;
 pub use sized_sheet::SizedSheet;
 use steps::{SizedSteps, fill_sizes, first_bad_step, leaves_trees};
 

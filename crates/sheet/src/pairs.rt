@@ -1,4 +1,5 @@
-// Pairs of offset and length, and what stands in the bytes that they mark.
+// Pairs of offset and length, and what stands in the bytes that they mark. How many pairs there are, and how many bytes, is handed beside
+// them: the definitions count by the numbers of the header, and from a slice of pairs the count would have to be divided out.
 ghost use Rattle.std.specs.Prelude.{◌≡◌, ◌*◌, ◌≤◌, length};
 ghost use Rattle.definitions.specs.Outcome.{lowest};
 ghost use Rattle.definitions.specs.Sheet.{pair_size};
@@ -23,7 +24,7 @@ pub fn first_bad_pair(pairs: &[u8], count: usize, bytes: usize, longest: usize) 
         let offset = pair_offset(pairs, i);
         let length = pair_length(pairs, i);
         let end = offset + length;
-        if offset < last_end || bytes < end || length < 1 || longest < length {
+        if offset < last_end || bytes < end || !(1..=longest).contains(&length) {
             return Some(i);
         }
         last_end = end;

@@ -1,28 +1,11 @@
-// Where the names and the code of a sheet lie, and its parts, as slices of its bytes.
+// The parts of a sheet, as slices of its bytes.
 ghost use Rattle.std.specs.Prelude.{◌≡◌, ◌<◌, ℕ, get_or};
 ghost use Rattle.definitions.specs.Sheet.{name_pairs, proposition_pairs, step_records, text_bytes, code_bytes};
 ghost use Rattle.sheet.specs.Header.{InRange, HasHeader, vocabulary_of};
 
 use crate::header::Sheet;
 use number::Marked;
-use vocabulary::{Memory, Vocabulary};
-
-// Where the names and the code of a sheet with this header lie.
-#[tactic(auto, unfolding(crate::specs::Header::vocabulary_of, definitions::specs::Sheet::header_size))]
-pub fn vocabulary(h: Sheet) -> Vocabulary
-    requires { InRange h }
-    ensures { result ≡ vocabulary_of h }
-{
-    let layout = h.layout();
-    Vocabulary {
-        name_count: h.names,
-        pairs: Sheet::HEADER_SIZE,
-        text: layout.text,
-        text_length: h.text_length,
-        code: layout.code,
-        code_length: h.code_length,
-    }
-}
+use vocabulary::Memory;
 
 // Bytes with their header, which lies in its ranges and says how many they are. No refusal has looked at what lies in their parts.
 #[derive(Clone, Copy)]
@@ -42,7 +25,7 @@ impl<'a> HeadedSheet<'a> {
     {
         Memory {
             bytes: self.bytes,
-            vocabulary: vocabulary(self.header),
+            vocabulary: self.header.vocabulary(),
         }
     }
 

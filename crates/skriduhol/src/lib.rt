@@ -37,7 +37,7 @@ use name_index::{Index, SLOT_COUNT};
 use output::{Counter, Writer};
 use proof_term_lists::put_term_list;
 use restating::Given;
-use sheet::{AdmittedSheet, check_header, vocabulary};
+use sheet::{AdmittedSheet, check_header};
 use sheet_term::{SheetTerm, TERM_NUMBERS};
 use text::{sheet_text_length, text};
 use vocabulary::Memory;
@@ -314,7 +314,7 @@ pub fn find_name<'a>(
     let h = checked.map_err(|refusal| locate(s, refusal))?;
     let memory = Memory {
         bytes: s,
-        vocabulary: vocabulary(h),
+        vocabulary: h.vocabulary(),
     };
     let index = Index { memory, slots };
     Ok(index.find(name))
