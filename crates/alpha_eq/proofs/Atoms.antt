@@ -16,7 +16,7 @@ use Rattle.definitions.specs.Comparison.{no, and_also, alpha_eq_atom}
 use Rattle.prefix_code.specs.Scan.{Stands}
 use Rattle.prefix_code.specs.Head.{encode_head, CodableHead}
 use Rattle.prefix_code.proofs.Heads.{AtomBytes, atom_bytes}
-use Rattle.alpha_eq.specs.declared.Pair.{Pair}
+use Rattle.alpha_eq.specs.declared.BoundObjects.{BoundObjects}
 use Rattle.alpha_eq.specs.Comparing.{Compared, compared, alpha_eq_parameters_in, alpha_eq_atom_in, of_applied, form_coding, several_coding, Standing, end_of, Two, Answers}
 
 module _ {names : ℕ} {code : List ℕ} {at : ℕ} (s : Standing (form_coding of_applied) names code at) where
@@ -40,7 +40,7 @@ module _ {code : List ℕ} {i j : ℕ} (counted : get_or code (i + 3) 0 ≡ get_
   abbrev pub two_lists : {names : ℕ} → Two (form_coding of_applied) code i j names → Two (several_coding (get_or code (i + 3) 0)) code (i + 4) (j + 4) names
   two_lists two = record { left = parameters_of two.left refl; right = parameters_of two.right counted }
 
-module _ (pairs text : List ℕ) (above : List Pair) (code : List ℕ) (i j : ℕ) {x y : ℕ} {same : Bool}
+module _ (pairs text : List ℕ) (above : List BoundObjects) (code : List ℕ) (i j : ℕ) {x y : ℕ} {same : Bool}
     (x-at : x ≡ number_at code (i + 1)) (y-at : y ≡ number_at code (j + 1)) (named : same ≡ eq_name (marked pairs text x) (marked pairs text y)) where
   -- the outcome by the numbers in the code
   atom_outcome : {names : ℕ} (two : Two (form_coding of_applied) code i j names)

@@ -7,20 +7,20 @@ use Rattle.definitions.specs.Outcome.{accepted, refuse}
 use Rattle.definitions.specs.Name.{eq_name}
 use Rattle.definitions.specs.Sheet.{marked}
 use Rattle.definitions.specs.Comparison.{bound_alike}
-use Rattle.alpha_eq.specs.declared.Pair.{Pair}
+use Rattle.alpha_eq.specs.declared.BoundObjects.{BoundObjects}
 use Rattle.std.proofs.Common.{Bor, rules}
 use Rattle.alpha_eq.specs.declared.Binders.{Binders, Empty, Latest, the_lemmas}
 use Rattle.alpha_eq.specs.Bindings.{numbers, binding_of, bindings_of}
 use Rattle.alpha_eq.specs.Comparing.{bound_alike_in}
 
-pub numbers_latest : (latest : Pair) (earlier : Bor Binders) → numbers (Latest latest earlier) ≡ latest ∷ numbers earlier.now
+pub numbers_latest : (latest : BoundObjects) (earlier : Bor Binders) → numbers (Latest latest earlier) ≡ latest ∷ numbers earlier.now
 numbers_latest latest earlier = search (rules, the_lemmas)
 
 pub numbers_empty : numbers Empty ≡ []
 numbers_empty = search (rules, the_lemmas)
 
 module _ (pairs text : List ℕ) (x y : ℕ) where
-  pub latest_decides : (latest : Pair) (earlier : List Pair) {has-x has-y : Bool}
+  pub latest_decides : (latest : BoundObjects) (earlier : List BoundObjects) {has-x has-y : Bool}
       → has-x ≡ eq_name (marked pairs text latest.left) (marked pairs text x)
       → has-y ≡ eq_name (marked pairs text latest.right) (marked pairs text y)
       → bound_alike_in pairs text (latest ∷ earlier) x y

@@ -19,7 +19,7 @@ use Rattle.prefix_code.specs.Scan.{Stands, proposition_coding}
 use Rattle.prefix_code.proofs.Positions.{byte_at}
 use Rattle.prefix_code.proofs.Forms.{inside_at, binary_at, atom_at, quantified_at, true_at, false_at}
 use Rattle.prefix_code.proofs.Reading as reading
-use Rattle.alpha_eq.specs.declared.Pair.{Pair}
+use Rattle.alpha_eq.specs.declared.BoundObjects.{BoundObjects}
 use Rattle.alpha_eq.specs.Bindings.{bindings_of}
 use Rattle.alpha_eq.specs.Comparing.{Compared, compared, alpha_eq_under_in, alpha_eq_sides_in, alpha_eq_atom_in, alpha_eq_scope_in, of_sides, of_applied, of_scope, form_coding, Standing, end_of, Two, Comparable, Answers}
 
@@ -77,7 +77,7 @@ front_at : {names : ℕ} {code : List ℕ} {at : ℕ} (name_of : ℕ → Name) (
 unfolding Stands
 front_at {code} {at} name_of s = front_stands code at s.value s.rest s.stands.1 ∙ sym (front_renamed name_of s.value)
 
-pub inside : {pairs text : List ℕ} {above : List Pair} {code : List ℕ} {i j : ℕ} → Comparable proposition_coding code i j pairs text above
+pub inside : {pairs text : List ℕ} {above : List BoundObjects} {code : List ℕ} {i j : ℕ} → Comparable proposition_coding code i j pairs text above
     → (i < length code) × (j < length code)
 inside {code} {i} {j} asked =
     let names = asked.names in
@@ -86,12 +86,12 @@ inside {code} {i} {j} asked =
     ((inside_at names code i l.rest l.value l.stands).0, (inside_at names code j r.rest r.value r.stands).0)
 
 -- the byte in front is that of a head
-pub known : {pairs text : List ℕ} {above : List Pair} {code : List ℕ} {i j : ℕ} → Comparable proposition_coding code i j pairs text above → get_or code i 0 < 8
+pub known : {pairs text : List ℕ} {above : List BoundObjects} {code : List ℕ} {i j : ℕ} → Comparable proposition_coding code i j pairs text above → get_or code i 0 < 8
 known {code} {i} asked =
     let l = asked.two.left in
     (reading.inside (reading.present asked.names code i l.value l.rest l.stands)).known
 
-module _ (pairs text : List ℕ) (above : List Pair) (code : List ℕ) (i j : ℕ) where
+module _ (pairs text : List ℕ) (above : List BoundObjects) (code : List ℕ) (i j : ℕ) where
   pub other_front : (get_or code i 0 ≡ get_or code j 0 → ⊥) → Answers proposition_coding code i j (alpha_eq_under_in pairs text above) (Ok None)
   unfolding compared alpha_eq_under_in
   other_front differ = record {
@@ -168,7 +168,7 @@ module _ {A : Type 0} (make : A → Prop ℕ) {code : List ℕ} {i j : ℕ} (for
     two_forms : Two (form_coding make) code i j names
     two_forms = record { left = left_form.0; right = right_form.0 }
 
-  pub forms_asked : {pairs text : List ℕ} {above : List Pair} → Comparable proposition_coding code i j pairs text above
+  pub forms_asked : {pairs text : List ℕ} {above : List BoundObjects} → Comparable proposition_coding code i j pairs text above
       → Comparable (form_coding make) code i j pairs text above
   unfolding two_forms
   forms_asked asked = record { names = asked.names; two = two_forms asked.two; named = asked.named; bound = asked.bound }
@@ -184,7 +184,7 @@ module _ {A : Type 0} (make : A → Prop ℕ) {code : List ℕ} {i j : ℕ} (for
         cc (same l.value m.value);
   }
 
-module _ (pairs text : List ℕ) (above : List Pair) where
+module _ (pairs text : List ℕ) (above : List BoundObjects) where
   pub sides_under : (a b : Sides ℕ) → alpha_eq_under_in pairs text above (of_sides a) (of_sides b) ≡ alpha_eq_sides_in pairs text above a b
   unfolding alpha_eq_under_in alpha_eq_sides_in alpha_eq_under rename_prop
   sides_under a b = refl

@@ -18,7 +18,7 @@ use Rattle.number.specs.Pairs.{NameWithin}
 use Rattle.identifier.proofs.Within.{last_within}
 use Rattle.prefix_code.specs.Scan.{parameter_coding}
 use Rattle.prefix_code.proofs.Parameters.{ParameterBytes, parameter_bytes, first_parameter, none_stand}
-use Rattle.alpha_eq.specs.declared.Pair.{Pair}
+use Rattle.alpha_eq.specs.declared.BoundObjects.{BoundObjects}
 use Rattle.alpha_eq.specs.Comparing.{Compared, compared, bound_alike_in, alpha_eq_parameter_in, alpha_eq_parameters_in, several_coding, Standing, end_of, Two, Comparable, Answers}
 use Rattle.alpha_eq.proofs.Outcomes.{Stops, yes_ends, stopped, followed}
 use Rattle.alpha_eq.proofs.Standing.{moved}
@@ -36,14 +36,14 @@ pub parameters_inside : {names : ℕ} {code : List ℕ} {i j : ℕ} → Two para
 parameters_inside two = (omega (arith, parameter_at two.left), omega (arith, parameter_at two.right))
 
 -- the names of two lie in the text
-pub names_within : {pairs text : List ℕ} {above : List Pair} {code : List ℕ} {i j x y : ℕ} → Comparable parameter_coding code i j pairs text above
+pub names_within : {pairs text : List ℕ} {above : List BoundObjects} {code : List ℕ} {i j x y : ℕ} → Comparable parameter_coding code i j pairs text above
     → x ≡ number_at code (i + 1) → y ≡ number_at code (j + 1) → NameWithin pairs text x × NameWithin pairs text y
 names_within {x} {y} asked x-at y-at =
     let l = parameter_at asked.two.left in
     let r = parameter_at asked.two.right in
     (last_within (asked.named x (omega arith)), last_within (asked.named y (omega arith)))
 
-module _ (pairs text : List ℕ) (above : List Pair) (code : List ℕ) (i j : ℕ) where
+module _ (pairs text : List ℕ) (above : List BoundObjects) (code : List ℕ) (i j : ℕ) where
   -- of different kinds: no
   pub other_kind : (get_or code i 0 ≡ get_or code j 0 → ⊥)
       → Answers parameter_coding code i j (alpha_eq_parameter_in pairs text above) (Ok None)
@@ -96,7 +96,7 @@ cons_length : {ps others : List (PropParameter ℕ)} {p : PropParameter ℕ} →
 unfolding encode_parameters
 cons_length {others} {p} e = rw e (length-append (encode_parameter p) (encode_parameters others))
 
-module _ (pairs text : List ℕ) (above : List Pair) where
+module _ (pairs text : List ℕ) (above : List BoundObjects) where
   -- what is left to compare, so many parameters from `left` and `right` on, decides the comparison from i and j on
   pub record Remaining (code : List ℕ) (i j count left right needed : ℕ) : Type 0 where
     pub asked : Comparable (several_coding needed) code left right pairs text above
@@ -114,7 +114,7 @@ module _ (pairs text : List ℕ) (above : List Pair) where
   unfolding alpha_eq_parameter_in alpha_eq_parameters_in alpha_eq_parameters
   cons_outcome e f = rw (e, f)
 
-module _ {pairs text : List ℕ} {above : List Pair} {code : List ℕ} {i j count left right needed : ℕ}
+module _ {pairs text : List ℕ} {above : List BoundObjects} {code : List ℕ} {i j count left right needed : ℕ}
     (held : Remaining pairs text above code i j count left right needed) where
   module _ (more : 0 < needed) where
     parts : {names at : ℕ} (s : Standing (several_coding needed) names code at) → First names code at (needed - 1) s.value

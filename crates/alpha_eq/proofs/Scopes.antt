@@ -16,7 +16,7 @@ use Rattle.definitions.specs.Comparison.{no, and_also, alpha_eq_scope, alpha_eq_
 use Rattle.prefix_code.specs.Scan.{Stands, proposition_coding}
 use Rattle.prefix_code.specs.Head.{encode_head, CodableHead}
 use Rattle.prefix_code.proofs.Heads.{QuantifiedBytes, quantified_bytes}
-use Rattle.alpha_eq.specs.declared.Pair.{Pair}
+use Rattle.alpha_eq.specs.declared.BoundObjects.{BoundObjects}
 use Rattle.alpha_eq.specs.Bindings.{binding_of, bindings_of}
 use Rattle.alpha_eq.specs.Comparing.{Compared, compared, alpha_eq_under_in, alpha_eq_scope_in, of_scope, form_coding, Standing, end_of, Two, Comparable, Answers}
 
@@ -46,7 +46,7 @@ abbrev two_bodies : {names : ℕ} {code : List ℕ} {i j : ℕ} → Two (form_co
 two_bodies two = record { left = body_of two.left; right = body_of two.right }
 
 -- what the comparison of the bodies asks
-module _ {pairs text : List ℕ} {above : List Pair} {code : List ℕ} {i j : ℕ} (asked : Comparable (form_coding of_scope) code i j pairs text above) where
+module _ {pairs text : List ℕ} {above : List BoundObjects} {code : List ℕ} {i j : ℕ} (asked : Comparable (form_coding of_scope) code i j pairs text above) where
   pub bodies_asked : {x y : ℕ} → x ≡ number_at code (i + 1) → y ≡ number_at code (j + 1)
       → Comparable proposition_coding code (i + 5) (j + 5) pairs text (record { left = x; right = y } ∷ above)
   bodies_asked {x} {y} x-at y-at =
@@ -59,7 +59,7 @@ module _ {pairs text : List ℕ} {above : List Pair} {code : List ℕ} {i j : �
         bound = (asked.named x (omega arith), asked.named y (omega arith), asked.bound);
       }
 
-module _ (pairs text : List ℕ) (above : List Pair) (code : List ℕ) (i j : ℕ) {t u : ℕ} {same : Bool}
+module _ (pairs text : List ℕ) (above : List BoundObjects) (code : List ℕ) (i j : ℕ) {t u : ℕ} {same : Bool}
     (fronts : get_or code i 0 ≡ get_or code j 0) (t-at : t ≡ number_at code (i + 3)) (u-at : u ≡ number_at code (j + 3))
     (named : same ≡ eq_name (marked pairs text t) (marked pairs text u)) where
   -- with one byte in front the quantifiers are equal

@@ -11,7 +11,7 @@ use Rattle.definitions.specs.Code.{encode, Codable}
 use Rattle.definitions.specs.Comparison.{and_also, alpha_eq_sides}
 use Rattle.prefix_code.specs.Scan.{Stands, proposition_coding}
 use Rattle.prefix_code.proofs.Positions.{after, byte_at}
-use Rattle.alpha_eq.specs.declared.Pair.{Pair}
+use Rattle.alpha_eq.specs.declared.BoundObjects.{BoundObjects}
 use Rattle.alpha_eq.specs.Comparing.{Compared, alpha_eq_under_in, alpha_eq_sides_in, of_sides, form_coding, Standing, end_of, Two, Comparable, Answers}
 use Rattle.alpha_eq.proofs.Outcomes.{Stops, yes_ends, stopped, followed}
 use Rattle.alpha_eq.proofs.Standing.{moved}
@@ -61,7 +61,7 @@ module _ {names : ℕ} {code : List ℕ} {i j : ℕ} (two : Two (form_coding of_
   two_rights at_left at_right = record { left = moved at_left (right_side two.left); right = moved at_right (right_side two.right) }
 
   -- with one byte in front the connectives are equal
-  sides_outcome : (pairs text : List ℕ) (above : List Pair) → get_or code i 0 ≡ get_or code j 0
+  sides_outcome : (pairs text : List ℕ) (above : List BoundObjects) → get_or code i 0 ≡ get_or code j 0
       → alpha_eq_sides_in pairs text above two.left.value two.right.value
       ≡ and_also (alpha_eq_under_in pairs text above two.left.value.left two.right.value.left)
       (alpha_eq_under_in pairs text above two.left.value.right two.right.value.right)
@@ -72,7 +72,7 @@ module _ {names : ℕ} {code : List ℕ} {i j : ℕ} (two : Two (form_coding of_
       rw (eq-eqb (connective_byte two.left.value.connective) (connective_byte two.right.value.connective) (sym l.byte ∙ (fronts ∙ r.byte)))
 
 -- what the comparison of the left sides asks
-module _ {pairs text : List ℕ} {above : List Pair} {code : List ℕ} {i j : ℕ} (asked : Comparable (form_coding of_sides) code i j pairs text above) where
+module _ {pairs text : List ℕ} {above : List BoundObjects} {code : List ℕ} {i j : ℕ} (asked : Comparable (form_coding of_sides) code i j pairs text above) where
   pub sides_inside : (i < length code) × (j < length code)
   sides_inside = ((sides_at asked.two.left).inside, (sides_at asked.two.right).inside)
 
@@ -89,7 +89,7 @@ module _ {pairs text : List ℕ} {above : List Pair} {code : List ℕ} {i j : �
         let at = yes_ends _ _ _ (lefts.answer asked.names (two_lefts asked.two)) in
         record { names = asked.names; two = two_rights asked.two at.1 at.2; named = asked.named; bound = asked.bound }
 
-module _ (pairs text : List ℕ) (above : List Pair) (code : List ℕ) (i j : ℕ) (fronts : get_or code i 0 ≡ get_or code j 0) where
+module _ (pairs text : List ℕ) (above : List BoundObjects) (code : List ℕ) (i j : ℕ) (fronts : get_or code i 0 ≡ get_or code j 0) where
   -- a no or a refusal of the left sides is the answer
   pub lefts_stop : {r : Compared} → Answers proposition_coding code (i + 1) (j + 1) (alpha_eq_under_in pairs text above) r → Stops r
       → Answers (form_coding of_sides) code i j (alpha_eq_sides_in pairs text above) r

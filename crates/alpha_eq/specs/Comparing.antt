@@ -9,7 +9,7 @@ use Rattle.definitions.specs.Comparison.{Binding, bound_alike, alpha_eq_paramete
 use Rattle.prefix_code.specs.Scan.{Coding, Stands, proposition_coding, parameters_coding}
 use Rattle.identifier.specs.Pairs.{PairsWithin}
 use Rattle.definitions.specs.declared.Refusal.{Refusal}
-use Rattle.alpha_eq.specs.declared.Pair.{Pair}
+use Rattle.alpha_eq.specs.declared.BoundObjects.{BoundObjects}
 use Rattle.alpha_eq.specs.declared.NamedCode.{NamedCode}
 use Rattle.alpha_eq.specs.declared.Binders.{Binders}
 use Rattle.alpha_eq.specs.Bindings.{numbers, bindings_of, Bound}
@@ -43,7 +43,7 @@ abbrev pub several_coding : ℕ → ℕ → Coding (List (PropParameter ℕ))
 several_coding count names = parameters_coding names count
 
 -- The definitions' comparisons for things of a sheet: names are what the pairs mark in the text, and the quantifiers above bind some.
-module _ (pairs text : List ℕ) (above : List Pair) where
+module _ (pairs text : List ℕ) (above : List BoundObjects) where
   abbrev name_of : ℕ → Name
   name_of = marked pairs text
 
@@ -97,7 +97,7 @@ module _ {A : Type 0} (coding : ℕ → Coding A) (code : List ℕ) (i j : ℕ) 
     pub right : Standing coding names code j
 
   -- two are there; their names and those of the bindings lie in the text
-  pub record Comparable (pairs text : List ℕ) (above : List Pair) : Type 0 where
+  pub record Comparable (pairs text : List ℕ) (above : List BoundObjects) : Type 0 where
     pub names : ℕ
     pub two : Two names
     pub named : (n : ℕ) → n < names → PairsWithin pairs text n
@@ -113,7 +113,7 @@ module _ {A : Type 0} (coding : ℕ → Coding A) (named : NamedCode) (i j : ℕ
   abbrev pub ComparableIn : Binders → Type 0
   ComparableIn bindings = Comparable coding named.code.now i j named.names.pairs.now named.names.bytes.now (numbers bindings)
 
-  abbrev pub AnswersIn : (List ℕ → List ℕ → List Pair → A → A → Outcome Bool) → Binders → Compared → Type 0
+  abbrev pub AnswersIn : (List ℕ → List ℕ → List BoundObjects → A → A → Outcome Bool) → Binders → Compared → Type 0
   AnswersIn outcome bindings r = Answers coding named.code.now i j (outcome named.names.pairs.now named.names.bytes.now (numbers bindings)) r
 
 -- two propositions whose names lie in the text; the left one nests no deeper than those of a sheet do, which bounds the stack

@@ -6,8 +6,8 @@ use Rattle.alpha_eq.proofs.Bindings.{numbers_empty}
 use Rattle.alpha_eq.proofs.Decisions.{nothing_bound, decides}
 use Rattle.alpha_eq.proofs.alpha_eq.Goals as goal
 
-pub alpha_eq_under-requires : goal.alpha_eq_under-requires
-alpha_eq_under-requires c = rw numbers_empty (nothing_bound c.requires)
+pub under-requires : goal.under-requires
+under-requires c = rw numbers_empty (nothing_bound c.requires)
 
 pub returns-in_err-ends : goal.returns-in_err-ends
 returns-in_err-ends c = decides _ _ _ _ _ (search rules) (rw numbers_empty at c.in_err-ends.ensures)

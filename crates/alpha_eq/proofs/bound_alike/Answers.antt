@@ -11,7 +11,7 @@ use Rattle.alpha_eq.proofs.Bindings.{numbers_latest, numbers_empty, latest_decid
 use Rattle.alpha_eq.proofs.bound_alike.Goals as goal
 use Rattle.alpha_eq.proofs.bound_alike.Goals.{In-Latest, After-same_bytes-binds_y}
 
-within : (c : In-Latest) → Bound c.args.names.pairs.now c.args.names.bytes.now (c.in-Latest.pair ∷ numbers c.in-Latest.earlier.now)
+within : (c : In-Latest) → Bound c.args.names.pairs.now c.args.names.bytes.now (c.in-Latest.objects ∷ numbers c.in-Latest.earlier.now)
 within c = rw (c.in-Latest.is, numbers_latest) at c.loop-rest.invariant.0
 
 decided : (c : After-same_bytes-binds_y) → let s = c.args in
@@ -20,7 +20,7 @@ decided : (c : After-same_bytes-binds_y) → let s = c.args in
     cond (x || y) (accepted (x && y)) (bound_alike_in s.names.pairs.now s.names.bytes.now (numbers c.in-Latest.earlier.now) s.x s.y)
     ≡ bound_alike_in s.names.pairs.now s.names.bytes.now (numbers s.bindings.now) s.x s.y
 decided c =
-    sym (latest_decides _ _ _ _ c.in-Latest.pair (numbers c.in-Latest.earlier.now) c.same_bytes-binds_x.ensures c.same_bytes-binds_y.ensures)
+    sym (latest_decides _ _ _ _ c.in-Latest.objects (numbers c.in-Latest.earlier.now) c.same_bytes-binds_x.ensures c.same_bytes-binds_y.ensures)
     ∙ (rw (c.in-Latest.is, numbers_latest) at c.loop-rest.invariant.1)
 
 pub same_bytes-binds_x-requires : goal.same_bytes-binds_x-requires

@@ -1,8 +1,9 @@
 -- The numbers that are read are those of the two atoms, so that each return is one case of their comparison.
+use mathlib.Core.Logic.{⊎_elim}
 use native.Mathlib.Omega.{arith}
 use Rattle.identifier.proofs.Within.{last_within}
 use Rattle.alpha_eq.proofs.Atoms.{atom_at, two_lists, other_name, other_count, by_parameters}
-use Rattle.alpha_eq.proofs.alpha_eq_atom.Goals as goal
+use Rattle.alpha_eq.proofs.NamedCode.atom.Goals as goal
 
 pub same_bytes-same_atom-requires : goal.same_bytes-same_atom-requires
 same_bytes-same_atom-requires c =
@@ -13,16 +14,13 @@ same_bytes-same_atom-requires c =
 
 pub returns-then-not-same_atom : goal.returns-then-not-same_atom
 returns-then-not-same_atom c =
-    other_name _ _ _ _ _ _ c.number_at-a.ensures.0 c.number_at-b.ensures.0
-    c.same_bytes-same_atom.ensures c.if-not-same_atom.true
+    ⊎_elim
+    (λ other. other_name _ _ _ _ _ _ c.number_at-a.ensures.0 c.number_at-b.ensures.0 c.same_bytes-same_atom.ensures other)
+    (λ both. other_count _ _ _ _ _ _ c.number_at-a.ensures.0 c.number_at-b.ensures.0 c.same_bytes-same_atom.ensures both.0 both.1)
+    c.then-not-same_atom.either
 
-pub returns-then-count-other_count : goal.returns-then-count-other_count
-returns-then-count-other_count c =
-    other_count _ _ _ _ _ _ c.number_at-a.ensures.0 c.number_at-b.ensures.0
-    c.same_bytes-same_atom.ensures c.if-not-same_atom.false c.if-count-other_count.true
-
-pub alpha_eq_parameters-requires : goal.alpha_eq_parameters-requires
-alpha_eq_parameters-requires c =
+pub parameters-requires : goal.parameters-requires
+parameters-requires c =
     let s = c.requires.comparable in
     rw c.from.ensures (record { names = s.names; named = s.named; two = two_lists c.if-count-other_count.false s.two; bound = s.bound })
 
@@ -30,4 +28,4 @@ pub returns : goal.returns
 returns c =
     by_parameters _ _ _ _ _ _ c.number_at-a.ensures.0 c.number_at-b.ensures.0
     c.same_bytes-same_atom.ensures c.if-not-same_atom.false c.if-count-other_count.false
-    (rw c.from.ensures at c.alpha_eq_parameters.ensures)
+    (rw c.from.ensures at c.parameters.ensures)
