@@ -17,10 +17,7 @@ use proof_term::{Form, Node};
 use prop_parts::NameRead;
 use prop_reader::read_label;
 use term_openings::{closed_for, name_after};
-use term_stack::{
-    Entry, Hand, NO_ASCRIPTION, NO_FUNCTION, Part, Progress, Purpose, State, Work, close_case,
-    close_function, close_let, due, enter, make, over, over_part, use_for, waiting,
-};
+use term_stack::{Entry, Hand, NO_ASCRIPTION, NO_FUNCTION, Part, Progress, Purpose, State, Work};
 use words::{NameTable, argument_follows, expect};
 
 // As in `term_openings`, each function is lent the memories that it reads or writes and no others, so that its contract says what stays.
@@ -35,12 +32,12 @@ fn give_bracket(text: &[u8], work: &mut Work, s: Progress, hand: Hand, p: Purpos
         return None;
     }
     if let Some(comma) = expect(text, s.at, b", ") {
-        let entry = Entry::Second(p, waiting(s, hand));
-        return enter(work, Progress { at: comma, ..s }, entry);
+        let entry = Entry::Second(p, hand.waiting(s));
+        return work.enter(Progress { at: comma, ..s }, entry);
     }
     let end = expect(text, s.at, b")")?;
     let behind = Progress { at: end, ..s };
-    use_for(work, behind, Hand { own: true, ..hand }, p)
+    work.use_for(behind, Hand { own: true, ..hand }, p)
 }
 
 // The second part of a pair is in hand: the bracket closes, and the pair is used as the bracket was to be.
@@ -63,11 +60,11 @@ fn give_second(
     let behind = Progress { at: end, ..s };
     let node = Node::Pair {
         first: first.root,
-        second: waiting(s, hand).root,
+        second: hand.waiting(s).root,
     };
-    let pair = over_part(Form::Closed, first, hand);
-    let made = make(work, behind, node, pair)?;
-    use_for(work, made, pair, p)
+    let pair = Hand::over_part(Form::Closed, first, hand);
+    let made = work.make(behind, node, pair)?;
+    work.use_for(made, pair, p)
 }
 
 // The head of a let with these names is in hand, and then its body.
@@ -76,10 +73,10 @@ fn give_let(text: &[u8], work: &mut Work, s: Progress, hand: Hand, x: u16, y: u1
     requires { TextBegins (AtEntry hand (Entry.LetHead x y)) text.now work.old s }
     ensures { TextEnds (AtEntry hand (Entry.LetHead x y)) 2 text.now work.old s work.new result }
 {
-    due(hand, NO_ASCRIPTION)?;
+    hand.due(NO_ASCRIPTION)?;
     let body = expect(text, s.at, b" in ")?;
-    let entry = Entry::LetBody(x, y, waiting(s, hand));
-    enter(work, Progress { at: body, ..s }, entry)
+    let entry = Entry::LetBody(x, y, hand.waiting(s));
+    work.enter(Progress { at: body, ..s }, entry)
 }
 
 // What stands before the branch of a case: this word, a name and an arrow. The branch begins at the end of what was read.
@@ -107,7 +104,7 @@ fn give_branch(
     ensures { NamesEnd (AtEntry hand (branch_entry before)) 2 names.old work.old s
         names.new work.new result }
 {
-    due(hand, NO_ASCRIPTION)?;
+    hand.due(NO_ASCRIPTION)?;
     let word = match before {
         None => b" of inl ".as_slice(),
         Some(_) => b", inr ".as_slice(),
@@ -117,12 +114,12 @@ fn give_branch(
         at: branch.end,
         ..s
     };
-    let part = waiting(s, hand);
+    let part = hand.waiting(s);
     let entry = match before {
         None => Entry::CaseFirst(part, branch.number),
         Some((head, x)) => Entry::CaseSecond(head, x, part, branch.number),
     };
-    enter(work, behind, entry)
+    work.enter(behind, entry)
 }
 
 // A whole term is in hand: takes the entry on top off the stack, and does what it waits for.
@@ -140,12 +137,12 @@ pub fn give(names: &mut NameTable, work: &mut Work, s: Progress, hand: Hand) -> 
     match entry {
         Entry::Bracket(p) => give_bracket(text, work, below, hand, p),
         Entry::Second(p, first) => give_second(text, work, below, hand, p, first),
-        Entry::FunctionBody { name, label } => close_function(work, below, hand, name, label),
+        Entry::FunctionBody { name, label } => work.close_function(below, hand, name, label),
         Entry::CaseHead => give_branch(names, work, below, hand, None),
         Entry::CaseFirst(head, x) => give_branch(names, work, below, hand, Some((head, x))),
-        Entry::CaseSecond(head, x, left, y) => close_case(work, below, hand, head, x, left, y),
+        Entry::CaseSecond(head, x, left, y) => work.close_case(below, hand, head, x, left, y),
         Entry::LetHead(x, y) => give_let(text, work, below, hand, x, y),
-        Entry::LetBody(x, y, head) => close_let(work, below, hand, x, y, head),
+        Entry::LetBody(x, y, head) => work.close_let(below, hand, x, y, head),
     }
 }
 
@@ -165,7 +162,7 @@ fn ascribe(
     ensures { TurnEnds (AtTerm holding hand) 1 types.now names.old code.old work.old s
         names.new code.new work.new result }
 {
-    due(hand, NO_FUNCTION)?;
+    hand.due(NO_FUNCTION)?;
     let read = read_label(names, at, types, code, s.to)?;
     let behind = Progress {
         at: read.end,
@@ -173,11 +170,11 @@ fn ascribe(
         ..s
     };
     let node = Node::TypeAscription {
-        body: waiting(s, hand).root,
+        body: hand.waiting(s).root,
         label: read.label,
     };
-    let whole = over(Form::Ascription, 0, 1, hand);
-    let made = make(work, behind, node, whole)?;
+    let whole = Hand::over(Form::Ascription, 0, 1, hand);
+    let made = work.make(behind, node, whole)?;
     Some(State::Giving(made, whole))
 }
 
@@ -188,10 +185,10 @@ fn argument(names: &mut NameTable, work: &mut Work, s: Progress, hand: Hand) -> 
         × (argument_follows (drop s.at names.old.text.now) ≡ true) }
     ensures { NamesEnd (AtTerm holding hand) 0 names.old work.old s names.new work.new result }
 {
-    due(hand, NO_FUNCTION)?;
+    hand.due(NO_FUNCTION)?;
     let start = expect(names.text, s.at, b" ")?;
     let behind = Progress { at: start, ..s };
-    closed_for(names, work, behind, Purpose::Argument(waiting(s, hand)))
+    closed_for(names, work, behind, Purpose::Argument(hand.waiting(s)))
 }
 
 // A term is in hand to which more may belong: an argument, a label, or neither.

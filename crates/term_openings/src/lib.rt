@@ -14,7 +14,7 @@ ghost use Rattle.term_openings.specs.Parameters.{ParameterLacks, ParameterGiven}
 use proof_term::{Label, Node};
 use prop_parts::{NameRead, read_name};
 use prop_reader::{LabelRead, read_label};
-use term_stack::{Entry, Progress, Purpose, State, Work, enter, use_leaf};
+use term_stack::{Entry, Progress, Purpose, State, Work};
 use words::{NameTable, NamedFunction, Start, expect, name_end, start_of, word_end};
 
 // Each function is lent the memories that it reads or writes and no others, so that its contract says of the others that they stay: over
@@ -35,7 +35,7 @@ fn name_for(
 {
     let name = names.number_of_name(s.at, end)?;
     let behind = Progress { at: end, ..s };
-    use_leaf(work, behind, Node::Ident { name }, p)
+    work.use_leaf(behind, Node::Ident { name }, p)
 }
 
 // A bracket that opens, read for a purpose: unit where it closes at once, or else an entry for what stands in it.
@@ -47,10 +47,10 @@ fn open_for(text: &[u8], work: &mut Work, s: Progress, p: Purpose) -> Option<Sta
     let inside = expect(text, s.at, b"(")?;
     if let Some(end) = expect(text, inside, b")") {
         let behind = Progress { at: end, ..s };
-        return use_leaf(work, behind, Node::Unit, p);
+        return work.use_leaf(behind, Node::Unit, p);
     }
     let behind = Progress { at: inside, ..s };
-    enter(work, behind, Entry::Bracket(p))
+    work.enter(behind, Entry::Bracket(p))
 }
 
 // A closed term at `s.at`, read for a purpose: a name, `sorry`, unit, or a bracket that opens.
@@ -66,7 +66,7 @@ pub fn closed_for(names: &mut NameTable, work: &mut Work, s: Progress, p: Purpos
     let end = word_end(text, s.at);
     if let Start::Sorry = start_of(&text[s.at..end]) {
         let behind = Progress { at: end, ..s };
-        return use_leaf(work, behind, Node::Sorry, p);
+        return work.use_leaf(behind, Node::Sorry, p);
     }
     open_for(text, work, s, p)
 }
@@ -78,7 +78,7 @@ fn start_case(text: &[u8], work: &mut Work, s: Progress) -> Option<State>
     ensures { TextEnds (Started case_word) 0 text.now work.old s work.new result }
 {
     let head = expect(text, s.at, b" ")?;
-    enter(work, Progress { at: head, ..s }, Entry::CaseHead)
+    work.enter(Progress { at: head, ..s }, Entry::CaseHead)
 }
 
 // After the word of a named function: a blank, and then the body, a closed term. It shares with `start_case` the line for the blank
@@ -119,7 +119,7 @@ fn start_let(names: &mut NameTable, work: &mut Work, s: Progress) -> Option<Stat
     let second = name_after(names, first.end, b", ")?;
     let head = expect(text, second.end, b") = ")?;
     let behind = Progress { at: head, ..s };
-    enter(work, behind, Entry::LetHead(first.number, second.number))
+    work.enter(behind, Entry::LetHead(first.number, second.number))
 }
 
 // The label of a parameter whose name ends at `at`, if one follows it.
@@ -176,7 +176,7 @@ fn start_function(
         name: name.number,
         label: read.label,
     };
-    enter(work, behind, entry)
+    work.enter(behind, entry)
 }
 
 // A term begins at `s.at`: goes on by its first word.

@@ -87,12 +87,7 @@ fn read(types: &[u8], names: &mut NameTable, code: &mut [u8], work: &mut Work) -
     ensures { ReadEnds (scene_of types.now names.old.text.now names.new code.old code.new) work.new result }
 {
     names.clear();
-    let mut state = State::Reading(Progress {
-        at: 0,
-        depth: 0,
-        used: 0,
-        to: 0,
-    });
+    let mut state = State::Reading(Progress::default());
     // How many turns there are shows only as they are taken.
     while goes_on(state) {
         state = turn(types, names, code, work, state)?;
@@ -144,8 +139,8 @@ fn too_short(records: usize, names: usize, code: usize, size: &TermSize) -> bool
 
 // Copies the records and the pairs of a term of this size.
 fn copy_out(records: &mut [u16], names: &mut [u8], work: &Work, table: &NameTable, size: &TermSize)
-    requires copyable { Copyable (length work.now.records) (length table.now.pairs) size.now }
-    requires copyable_2 { Copyable (length records.old) (length names.old) size.now }
+    requires held { Copyable (length work.now.records) (length table.now.pairs) size.now }
+    requires room { Copyable (length records.old) (length names.old) size.now }
     ensures records_after { records.new ≡ take (7 * size.now.nodes) work.now.records ++ drop (7 * size.now.nodes) records.old }
     ensures names_after { names.new ≡ take (4 * size.now.names) table.now.pairs ++ drop (4 * size.now.names) names.old }
 {

@@ -11,15 +11,15 @@ store_code-requires c =
     let fitting = c.requires in
     record { value = fitting.value; holds = fitting.holds.measured }
 
-pub copy_out-requires-clause-copyable : goal.copy_out-requires-clause-copyable
+pub copy_out-requires-clause-held : goal.copy_out-requires-clause-held
 unfolding Rereads HasRoom scene_of
-copy_out-requires-clause-copyable c =
+copy_out-requires-clause-held c =
     let fitting = c.requires.holds in
     held (c.store_code.ensures c.requires.value fitting.measured) fitting.size_is
 
-pub copy_out-requires-clause-copyable_2 : goal.copy_out-requires-clause-copyable_2
+pub copy_out-requires-clause-room : goal.copy_out-requires-clause-room
 unfolding HasRoom
-copy_out-requires-clause-copyable_2 c = holds _ _ _ c.args.size.now c.requires.holds.fits
+copy_out-requires-clause-room c = holds _ _ _ c.args.size.now c.requires.holds.fits
 
 pub returns : goal.returns
 unfolding Rereads HandsOver

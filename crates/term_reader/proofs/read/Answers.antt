@@ -1,7 +1,8 @@
 -- The invariant: the machine is between two turns. The measure is what is left.
-use mathlib.Core.Path.{refl, sym, ap, ◌∙◌}
+use mathlib.Core.Path.{◌≡◌, refl, sym, ap, ◌∙◌}
 use Rattle.std.specs.Prelude.{None, Some}
 use native.Mathlib.Omega.{arith}
+use Rattle.std.proofs.Common.{rules}
 use Rattle.term_stack.specs.Turning.{scene_of}
 use Rattle.term_reader.specs.Between.{TurnFollows, GoesOn}
 use Rattle.term_reader.proofs.Turns.{at_text, own_text, turned_on, ends_of, begun}
@@ -10,10 +11,9 @@ use Rattle.term_reader.proofs.read.Goals as goal
 
 -- the text of the table that was cleared is that of the table lent
 pub loop-names-init : goal.loop-names-init
-loop-names-init c = record {
-  there = begun _ _ _ c.requires c.clear.ensures.1 _;
-  code_size = refl;
-}
+loop-names-init c =
+    let at_start : c.default.result ≡ record { at = 0; depth = 0; used = 0; to = 0 } = search rules in
+    record { there = rw at_start (begun _ _ _ c.requires c.clear.ensures.1 _); code_size = refl }
 
 pub turn-requires : goal.turn-requires
 unfolding TurnFollows

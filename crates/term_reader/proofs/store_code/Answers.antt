@@ -1,6 +1,6 @@
 -- The same term again, or nothing to store.
 use native.Mathlib.Omega.{arith}
-use Rattle.term_reader.specs.Whole.{HasRead, Rereads}
+use Rattle.term_reader.specs.Whole.{Rereads}
 use Rattle.term_reader.proofs.Passes.{no_labels, read_again}
 use Rattle.term_reader.proofs.store_code.Goals as goal
 

@@ -2,7 +2,7 @@
 use mathlib.Core.List.{[]}
 use borrow.Author.Tests.{ltb-true}
 use Rattle.term_stack.specs.Standing.{AtState, left_of}
-use Rattle.term_stack.specs.Turning.{scene_of, TurnBegins, TurnEnds}
+use Rattle.term_stack.specs.Turning.{scene_of}
 use Rattle.term_openings.specs.Beginning.{with_names, NamesBegin, NamesEnd}
 use Rattle.term_reader.specs.Between.{goes_on, TurnFollows, GoesOn}
 use Rattle.term_reader.proofs.turn.Goals as goal

@@ -1,7 +1,7 @@
 -- The brackets are asked first, and then the record is made.
 use native.Mathlib.Omega.{arith}
 use Rattle.term_stack.proofs.Grown.{build_not_due, not_built, built, built_few}
-use Rattle.term_stack.proofs.build.Goals as goal
+use Rattle.term_stack.proofs.Work.build.Goals as goal
 
 pub returns-in_err-due : goal.returns-in_err-due
 returns-in_err-due c z b = rw c.from_residual.ensures (build_not_due b c.in_err-due.ensures)

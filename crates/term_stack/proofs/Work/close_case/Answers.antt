@@ -3,7 +3,7 @@ use native.Mathlib.Omega.{arith}
 use borrow.Author.Rules.{rules}
 use Rattle.term_stack.proofs.Grown.{built_few}
 use Rattle.term_stack.proofs.Closes.{given_small, case_builds}
-use Rattle.term_stack.proofs.close_case.Goals as goal
+use Rattle.term_stack.proofs.Work.close_case.Goals as goal
 
 pub over-whole-requires : goal.over-whole-requires
 over-whole-requires c =

@@ -1,7 +1,7 @@
 -- The purpose says which record is made over a closed term.
 use native.Mathlib.Omega.{arith}
 use Rattle.term_stack.proofs.Used.{used_small, used_head, argument_builds, body_builds}
-use Rattle.term_stack.proofs.use_for.Goals as goal
+use Rattle.term_stack.proofs.Work.use_for.Goals as goal
 
 pub returns-in-Head : goal.returns-in-Head
 returns-in-Head c z u = used_head (rw c.in-Head.is at u)

@@ -2,7 +2,7 @@
 use native.Mathlib.Omega.{arith}
 use Rattle.term_stack.proofs.Grown.{built_few}
 use Rattle.term_stack.proofs.Closes.{given_small, function_builds}
-use Rattle.term_stack.proofs.close_function.Goals as goal
+use Rattle.term_stack.proofs.Work.close_function.Goals as goal
 
 pub waiting-requires : goal.waiting-requires
 waiting-requires c = given_small c.requires.holds

@@ -1,6 +1,6 @@
 -- The record of the leaf, and then its purpose.
 use Rattle.term_stack.proofs.Leaves.{leaf_not, leaf_using, leaf_left}
-use Rattle.term_stack.proofs.use_leaf.Goals as goal
+use Rattle.term_stack.proofs.Work.use_leaf.Goals as goal
 
 pub returns-in_err-made : goal.returns-in_err-made
 returns-in_err-made c z l = rw c.from_residual.ensures (leaf_not l c.in_err-made.ensures)

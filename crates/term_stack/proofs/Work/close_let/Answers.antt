@@ -1,6 +1,6 @@
 -- The entry holds the names and the head, and the record is made over the body.
 use Rattle.term_stack.proofs.Closes.{given_small, let_builds}
-use Rattle.term_stack.proofs.close_let.Goals as goal
+use Rattle.term_stack.proofs.Work.close_let.Goals as goal
 
 pub over_part-whole-requires : goal.over_part-whole-requires
 over_part-whole-requires c = let small = given_small c.requires.holds in (small.2, small.3)
