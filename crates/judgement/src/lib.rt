@@ -47,10 +47,7 @@ fn is_outside(sheet: &AdmittedSheet, hypotheses: &[u16], k: usize) -> bool
     ensures { result ≡ (leb (propositions sheet.now) k || hypothesis_out sheet.now hypotheses.now) }
 {
     let h = sheet.header();
-    if h.propositions <= k {
-        return true;
-    }
-    is_out(hypotheses, h.names, h.propositions)
+    h.propositions <= k || is_out(hypotheses, h.names, h.propositions)
 }
 
 // The question is two parameters, the hypotheses and k, and no struct: what is known of it, `Known`, is asked by two functions alone, and
@@ -62,13 +59,9 @@ fn may_check(sheet: &AdmittedSheet, terms: &[u16], n: usize, hypotheses: &[u16],
     requires known { Known sheet.now hypotheses.now k }
     ensures { result ≡ may_check sheet.now terms.now n hypotheses.now k }
 {
-    if !is_checkable(terms, n, sheet.code_bytes(), sheet.header().names) {
-        return false;
-    }
-    if !is_free(sheet, k) {
-        return false;
-    }
-    are_free(sheet, hypotheses)
+    is_checkable(terms, n, sheet.code_bytes(), sheet.header().names)
+        && is_free(sheet, k)
+        && are_free(sheet, hypotheses)
 }
 
 // The sheet's propositions over the numbers, each where it stands, and then ⊤ and ⊥.
