@@ -1,5 +1,5 @@
 -- A record's label is printable where the record's is ready, and its text is the record's.
-use Prim.Native.Nat.{ℕ}
+use Prim.Native.Nat.{ℕ, ◌<◌}
 use mathlib.Core.Path.{◌≡◌, sym, ap, ◌∙◌}
 use Rattle.std.specs.Prelude.{Option, None, Some, IfSome}
 use mathlib.Core.List.{List}
@@ -14,19 +14,19 @@ use Rattle.proof_term.specs.declared.nodes.Label.{Label}
 use Rattle.proof_term.specs.declared.nodes.Label.TheVariants.{Proposition, Datatype}
 use Rattle.proof_term.proofs.Views.{label_same, parameter_same, parameter_read, datatype_read, proposition_read}
 use Rattle.vocabulary.specs.declared.Vocabulary.{Vocabulary}
-use Rattle.vocabulary.specs.Vocabulary.{prop_in}
+use Rattle.vocabulary.specs.Vocabulary.{prop_in, Within, Names}
 use Rattle.prop.proofs.Shown.{below_as}
-use Rattle.proof_term_display.specs.Printable.{PrintableTerm, PrintableLabel, shown_label, shown_parameter_label}
+use Rattle.proof_term_display.specs.Printable.{PrintableLabel, shown_label, shown_parameter_label}
 use Rattle.proof_term_display.specs.Item.{LabelReady, label_text, parameter_label_text}
 
-module _ {bytes : List ℕ} {v : Vocabulary} {ends records : List ℕ} {n : ℕ} (p : PrintableTerm records n bytes v ends) where
+module _ {bytes : List ℕ} {v : Vocabulary} {ends : List ℕ} (records : List ℕ) (n : ℕ) (within : Within bytes v) (named : (i : ℕ) → i < v.name_count → Names bytes v i) where
   pub printable_label : LabelReady bytes v ends records n → {l : Label} → label_of_numbers (field_at records n 3) (field_at records n 4) ≡ l → PrintableLabel bytes v ends l
   printable_label ready {l} is =
       record {
         datatype = λ t e. let read = datatype_read (field_at records n 3) (field_at records n 4) (is ∙ e) in below_as read.1 (ready.datatype read.0);
         proposition = λ at e. let read = proposition_read (field_at records n 3) (field_at records n 4) (is ∙ e) in rw read.1 (ready.proposition read.0);
-        within = p.within;
-        named = p.named;
+        within = within;
+        named = named;
       }
 
   pub printable_parameter : ((field_at records n 3 ≡ 0 → ⊥) → LabelReady bytes v ends records n) → (l : Option Label)

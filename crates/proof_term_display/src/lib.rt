@@ -139,7 +139,7 @@ pub fn is_bracketed(records: &[u16], n: usize, position: PartPosition, style: St
 // It is a text and no list of items: a case's would be ten values, `[Text(b"case "), Part(First), Text(b" of inl "), Name(4), ..]`, in which
 // what is printed is no longer read at a glance. The definition of the formats has the same texts and letters.
 #[tactic(auto, unfolding(crate::specs::Format::formats))]
-fn format_of(kind: Kind) -> &'static [u8]
+pub fn format_of(kind: Kind) -> &'static [u8]
     ensures { items result.now ≡ get_or formats (kind_number kind) [] }
 {
     match kind {

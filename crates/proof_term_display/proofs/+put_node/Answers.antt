@@ -1,10 +1,8 @@
 -- A part is an earlier record, and a record's items come before its term: so the number falls, and of one number first the
 -- term, then its items, then its parts. The term's text is written by the items of its format, one after the other.
-use Prim.Native.Nat.{ℕ, ◌-◌, ◌≤◌}
+use Prim.Native.Nat.{ℕ, ◌-◌}
 use mathlib.Core.Path.{◌≡◌, sym, ap, ◌∙◌}
-use mathlib.Core.Bool.{true, false, ◌&&◌}
 use native.Mathlib.Omega.{arith}
-use lib.Dec.{leb}
 use Rattle.proof_term.specs.Records.{field_at}
 use Rattle.prop.proofs.Shown.{below_as, put_as}
 use Rattle.proof_term_display.specs.Format.{part_field, part_number, item_text}
@@ -96,7 +94,7 @@ put_item-returns-in-Some g t c =
 pub put_item-put_parameter_label-requires : goal.put_item-put_parameter_label-requires
 unfolding ItemReady
 put_item-put_parameter_label-requires g t c =
-    printable_parameter c.requires.has_term (rw (item_of_parameter c.args.b c.in-76.is) at c.requires.has_item) _ c.parameter_at.ensures
+    printable_parameter _ _ c.requires.has_term.within c.requires.has_term.named (rw (item_of_parameter c.args.b c.in-76.is) at c.requires.has_item) _ c.parameter_at.ensures
 
 pub put_item-returns-in-76 : goal.put_item-returns-in-76
 unfolding item_text
@@ -107,7 +105,7 @@ put_item-returns-in-76 g t c =
 pub put_item-put_label-requires : goal.put_item-put_label-requires
 unfolding ItemReady
 put_item-put_label-requires g t c =
-    printable_label c.requires.has_term (rw (item_of_ascription c.args.b c.in-77.is) at c.requires.has_item) (sym c.label_at.ensures)
+    printable_label _ _ c.requires.has_term.within c.requires.has_term.named (rw (item_of_ascription c.args.b c.in-77.is) at c.requires.has_item) (sym c.label_at.ensures)
 
 pub put_item-returns-in-77 : goal.put_item-returns-in-77
 unfolding item_text

@@ -11,4 +11,4 @@ returns g c =
     (g.met.S.Sink.laws.then c.put_all.ensures c.put_label.ensures)
 
 pub put_label-requires : goal.put_label-requires
-put_label-requires g c = printable_label c.requires.has_term (rw c.in-Some.is at c.requires.has_label) (sym c.label_at.ensures)
+put_label-requires g c = printable_label _ _ c.requires.has_term.within c.requires.has_term.named (rw c.in-Some.is at c.requires.has_label) (sym c.label_at.ensures)
