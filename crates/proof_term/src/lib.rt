@@ -54,8 +54,7 @@ pub fn push(records: &mut [u16], used: usize, node: Node, tally: u16) -> usize
     used + 1
 }
 
-// A number and the values of some parts of a record, as far as a number of a record goes. It is no instance of proof_term_length's `total`:
-// that one adds lengths which are known as far as its cap alone, and cuts each sum off there, and this one numbers that are exact.
+// A number and the values of some parts of a record, as far as a number of a record goes.
 pub fn sum_over<F: Fn(usize) -> usize>(own: usize, parts: &[u16], value: F) -> usize
     requires few { (own ≤ 1) × (length parts.now ≤ 3) }
     requires asked { (k : ℕ) → k < length parts.now → F.pre value (get_or parts.now k 0) }

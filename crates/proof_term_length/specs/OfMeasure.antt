@@ -3,9 +3,10 @@ use Rattle.std.specs.Prelude.{ℕ, ◌+◌, ◌*◌, ◌≤◌, ◌<◌, List, l
 use Rattle.definitions.specs.declared.Style.{Style}
 use Rattle.proof_term.specs.Records.{record_size}
 use Rattle.prop.specs.declared.propositions.Propositions.{Propositions}
-use Rattle.proof_term_display.specs.declared.TermPart.{TermPart}
+use Rattle.vocabulary.specs.Vocabulary.{code_in}
+use Rattle.proof_term_display.specs.Format.{Item}
 use Rattle.proof_term_length.specs.declared.Measure.{Measure}
-use Rattle.proof_term_length.specs.Measure.{name_size, part_size, term_length, own_label_length, MeasuredBelow, AllNamed, Measurable, Known}
+use Rattle.proof_term_length.specs.Measure.{name_size, item_size, term_length, MeasuredBelow, AllNamed, Measurable, Known, ItemFits}
 
 module _ (p : Propositions) where
   -- record n can be measured, the table has lengths of texts, and the length of the term's text
@@ -33,15 +34,19 @@ module _ (m : Measure) where
   abbrev pub CanMeasure : ℕ → Type 0
   CanMeasure = TermMeasurable m.propositions m.records.now
 
-  -- the length of the name in a number of record n, of a part, of its label, and of its text
+  -- the code fits the table of known lengths; where an item of record n stands for a label, that fits
+  abbrev pub HasShortCode : Type 0
+  HasShortCode = length (code_in m.propositions.memory.bytes.now m.propositions.memory.vocabulary) ≤ 8192
+
+  abbrev pub LabelFitsItem : ℕ → Item → Type 0
+  LabelFitsItem = ItemFits m.propositions.memory.bytes.now m.propositions.memory.vocabulary m.propositions.ends.now m.records.now
+
+  -- the length of the name in a number of record n, of an item of its format, and of its text
   abbrev pub size_of_name : ℕ → ℕ → ℕ
   size_of_name = name_size m.propositions.memory.bytes.now m.propositions.memory.vocabulary m.records.now
 
-  abbrev pub size_of_part : ℕ → TermPart → ℕ
-  size_of_part n = part_size m.propositions.memory.bytes.now m.propositions.memory.vocabulary m.records.now n m.style
-
-  abbrev pub label_size : ℕ → ℕ
-  label_size = own_label_length m.propositions.memory.bytes.now m.propositions.memory.vocabulary m.records.now
+  abbrev pub size_of_item : ℕ → Item → ℕ
+  size_of_item n = item_size m.propositions.memory.bytes.now m.propositions.memory.vocabulary m.records.now n m.style
 
   abbrev pub text_size : ℕ → ℕ
   text_size = length_of_term m.propositions m.records.now m.style

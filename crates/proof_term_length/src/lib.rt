@@ -1,70 +1,30 @@
-// How long the text of a term is, from its records, without printing it. Lengths are counted as far as a cap: one past the room.
+// How long the text of a term is, from its records, without printing it: by the formats that it is printed by. Lengths are counted as far as a cap.
 #![tactic(auto)]
 
-ghost use Rattle.std.specs.Prelude.{◌≡◌, List, ℕ, ◌+◌, ◌*◌, ◌≤◌, ◌<◌, min, length, get_or};
+ghost use Rattle.std.specs.Prelude.{◌≡◌, Option, ℕ, ◌+◌, ◌*◌, ◌≤◌, ◌<◌, IfSome, min, length};
 ghost use Rattle.proof_term.specs.Records.{record_size};
 ghost use Rattle.prop.specs.Propositions.{text_at, HasProposition};
 ghost use Rattle.prop_length.specs.Length.{TextLength};
-ghost use Rattle.proof_term_length.specs.Measure.{seen, make_row, row_of, total, Agrees};
-ghost use Rattle.proof_term_length.specs.OfMeasure.{TermMeasurable, KnownLengths, length_of_term, Held, HasNames, LengthsBelow, CanMeasure, size_of_name, size_of_part, label_size, text_size};
+ghost use Rattle.proof_term_display.specs.Format.{item_of, part, part_number};
+ghost use Rattle.proof_term_display.specs.Printer.{HasLabel, shown_in, shown_of_parameter};
+ghost use Rattle.proof_term_length.specs.Measure.{Agrees};
+ghost use Rattle.proof_term_length.specs.OfMeasure.{TermMeasurable, KnownLengths, length_of_term, Held, HasNames, HasShortCode, LengthsBelow, CanMeasure, LabelFitsItem, size_of_name, size_of_item, text_size};
 
-use TermPart::{
-    Argument, AscribedBody, First, Function, NamedBody, PairFirst, PairSecond, Second, Third,
-};
 use definitions::Style;
-use proof_term::{Kind, Label, field, kind_at, node_at};
-use proof_term_display::{TermPart, is_bracketed};
+use prefix_code::CODE_LIMIT;
+use proof_term::{Label, field, kind_at, label_at, parameter_at};
+use proof_term_display::{TermPart, format_of, is_bracketed};
 use prop::Propositions;
 use prop_length::{name_length, text_length};
 
-// Half as many as a sheet's code has bytes. The memory is fixed, since a library has no heap.
-const KNOWN_LIMIT: usize = prefix_code::CODE_LIMIT / 2;
-
 const RECORD_LIMIT: usize = proof_term::NODE_LIMIT;
 
-// The bytes of Unit's text, of a pair of brackets, and of the colon and the blank before a label.
+// The bytes of Unit's text, of a pair of brackets, and of the colon and the blank before the label of a parameter.
 const UNIT_LENGTH: usize = 2;
 
 const BRACKETS: usize = prop_length::BRACKETS;
 
 const COLON: usize = 2;
-
-// What the text of a record has: so many bytes beside its names, its parts and its label, the numbers of the record that are its names,
-// and its parts.
-#[derive(Clone, Copy)]
-struct Row {
-    own: usize,
-    names: &'static [usize],
-    parts: &'static [TermPart],
-}
-
-// A row by what it has, in this order.
-fn make_row(own: usize, names: &'static [usize], parts: &'static [TermPart]) -> Row
-    ensures { seen result ≡ make_row own names.now parts.now }
-{
-    Row { own, names, parts }
-}
-
-// The row of each kind of record. The formats of the printing say the same byte by byte. To measure by them, each byte would be told apart
-// once more as `put_item` of proof_term_display does, as a name, a part, a label or itself, which is longer than these rows.
-fn row_of(kind: Kind) -> Row
-    ensures { seen result ≡ row_of kind }
-{
-    match kind {
-        Kind::Ident => make_row(0, &[1], &[]),
-        Kind::Pair => make_row(4, &[], &[PairFirst, PairSecond]),
-        Kind::ProjectFst | Kind::ProjectSnd => make_row(4, &[], &[NamedBody]),
-        Kind::Function => make_row(7, &[2], &[First]),
-        Kind::Application => make_row(1, &[], &[Function, Argument]),
-        Kind::LetIn => make_row(15, &[3, 4], &[First, Second]),
-        Kind::OrLeft | Kind::OrRight => make_row(4, &[], &[NamedBody]),
-        Kind::Case => make_row(27, &[4, 5], &[First, Second, Third]),
-        Kind::Abort => make_row(6, &[], &[NamedBody]),
-        Kind::TypeAscription => make_row(0, &[], &[AscribedBody]),
-        Kind::Unit => make_row(2, &[], &[]),
-        Kind::Sorry => make_row(5, &[], &[]),
-    }
-}
 
 // The sum of two lengths, as far as a cap.
 fn sum(a: usize, b: usize, cap: usize) -> usize
@@ -73,38 +33,19 @@ fn sum(a: usize, b: usize, cap: usize) -> usize
     a.saturating_add(b).min(cap)
 }
 
-// The sum of the lengths of some items, as far as a cap.
-fn total<T: Copy + Drop, F: Fn(T) -> usize>(items: &[T], cap: usize, length_of: F) -> usize
-    requires { (k : ℕ) (x : T) → k < length items.now → F.pre length_of (get_or items.now k x) }
-    ensures { (size : T → ℕ)
-        → ((k r : ℕ) (x : T) → k < length items.now → F.post length_of (get_or items.now k x) r
-        → Agrees cap r (size (get_or items.now k x)))
-        → Agrees cap result (total size items.now) }
-{
-    let mut length = 0;
-    for &item in items {
-        length = sum(length, length_of(item), cap);
-    }
-    length
-}
-
-// The length of the text of the proposition at `at`, which is found out once, unless a label 4,096 bytes away takes turns with it.
-// An entry is twice a length, and one more for an offset in the upper half of the code. A struct of both takes eight bytes with its padding,
-// and the table of these, which the compiler lays down in the frame of `text::measure_term`, 32,768 bytes in the place of 16,384.
-fn known_length(propositions: &Propositions, at: usize, known: &mut [u32; KNOWN_LIMIT]) -> usize
+// The length of the text of the proposition at `at`, which is found out once: the table has it from then on, and 0 before.
+fn known_length(propositions: &Propositions, at: usize, known: &mut [u32; CODE_LIMIT]) -> usize
     requires printable { HasProposition propositions.now at × (at < 8192) }
     requires known { KnownLengths propositions.now known.old }
     ensures { TextLength (text_at propositions.now at) result
         × KnownLengths propositions.now known.new }
 {
-    let slot = at % KNOWN_LIMIT;
-    let upper = at / KNOWN_LIMIT;
-    let before = known[slot];
-    if before != 0 && before % 2 == upper as u32 {
-        return (before / 2) as usize;
+    let before = known[at];
+    if before != 0 {
+        return before as usize;
     }
     let length = text_length(propositions, at);
-    known[slot] = (2 * length + upper) as u32;
+    known[at] = length as u32;
     length
 }
 
@@ -133,50 +74,97 @@ impl Measure<'_> {
     }
 
     // The length of a part of record `n`, in brackets where its position asks for them, by the lengths of the records before.
-    fn part_in(&self, n: usize, part: TermPart, lengths: &[usize; RECORD_LIMIT]) -> usize
+    fn part_in(&self, n: usize, which: TermPart, lengths: &[usize; RECORD_LIMIT]) -> usize
         requires held { Held self.now n }
         requires measured_below { LengthsBelow self.now lengths.now n }
-        ensures { Agrees self.now.cap result (size_of_part self.now n part) }
+        ensures { Agrees self.now.cap result (size_of_item self.now n (part (part_number which))) }
     {
-        let number = field(self.records, n, part.field());
+        let number = field(self.records, n, which.field());
         if n <= number {
             return UNIT_LENGTH;
         }
-        if is_bracketed(self.records, number, part.position(), self.style) {
+        if is_bracketed(self.records, number, which.position(), self.style) {
             return sum(BRACKETS, lengths[number], self.cap);
         }
         lengths[number]
     }
 
-    // The length of record `n`'s text but for its label.
-    fn bare_length(&self, n: usize, lengths: &[usize; RECORD_LIMIT]) -> usize
-        requires held { Held self.now n }
-        requires all_named { HasNames self.now }
-        requires measured_below { LengthsBelow self.now lengths.now n }
-        ensures { Agrees self.now.cap (result + label_size self.now n) (text_size self.now n) }
+    // The length of a label: that of a datatype's name, or of a proposition's text.
+    #[tactic(auto, unfolding(definitions::specs::Term::rename_label, definitions::specs::Display::display_label))]
+    fn label_length(&self, label: Label, known: &mut [u32; CODE_LIMIT]) -> usize
+        requires has_label { HasLabel self.now.propositions label }
+        requires short { HasShortCode self.now }
+        requires known { KnownLengths self.now.propositions known.old }
+        ensures { TextLength (shown_in self.now.propositions label) result
+            × KnownLengths self.now.propositions known.new }
     {
-        let row = row_of(kind_at(self.records, n));
-        let names = total(row.names, self.cap, |number| self.name_in(n, number));
-        let parts = total(row.parts, self.cap, |part| self.part_in(n, part, lengths));
-        let rest = sum(names, parts, self.cap);
-        sum(row.own, rest, self.cap)
+        match label {
+            Label::Datatype(name) => name_length(&self.propositions.memory, usize::from(name)),
+            Label::Proposition(at) => known_length(&self.propositions, usize::from(at), known),
+        }
     }
 
-    // What record `n`'s label adds, if it has one: a colon, a blank and the label.
-    fn label_length(&self, n: usize, known: &mut [u32; KNOWN_LIMIT]) -> usize
-        requires measurable { CanMeasure self.now n }
+    // The length of the label of a parameter, if it has one, with the colon and the blank before it.
+    #[tactic(auto, unfolding(definitions::specs::Term::rename_parameter_label, definitions::specs::Display::display_parameter_label))]
+    fn parameter_length(&self, label: Option<Label>, known: &mut [u32; CODE_LIMIT]) -> usize
+        requires has_label { IfSome label (HasLabel self.now.propositions) }
+        requires short { HasShortCode self.now }
         requires known { KnownLengths self.now.propositions known.old }
-        ensures { (result ≡ label_size self.now n) × KnownLengths self.now.propositions known.new }
+        ensures { (result ≡ length (shown_of_parameter self.now.propositions label))
+            × KnownLengths self.now.propositions known.new }
     {
-        match node_at(self.records, n).label() {
-            None => 0,
-            Some(Label::Datatype(name)) => {
-                COLON + name_length(&self.propositions.memory, usize::from(name))
-            }
-            Some(Label::Proposition(at)) => {
-                COLON + known_length(&self.propositions, usize::from(at), known)
-            }
+        let Some(label) = label else {
+            return 0;
+        };
+        COLON + self.label_length(label, known)
+    }
+
+    // The length of what a byte of a format stands for in record `n`.
+    fn item_length(
+        &self,
+        n: usize,
+        b: u8,
+        lengths: &[usize; RECORD_LIMIT],
+        known: &mut [u32; CODE_LIMIT],
+    ) -> usize
+        requires measurable { CanMeasure self.now n }
+        requires measured_below { LengthsBelow self.now lengths.now n }
+        requires fits { LabelFitsItem self.now n (item_of b) }
+        requires known { KnownLengths self.now.propositions known.old }
+        ensures { Agrees self.now.cap result (size_of_item self.now n (item_of b))
+            × KnownLengths self.now.propositions known.new }
+    {
+        match b {
+            b'1'..=b'5' => self.name_in(n, usize::from(b - b'0')),
+            b'L' => self.parameter_length(parameter_at(self.records, n), known),
+            b'M' => self.label_length(label_at(self.records, n), known),
+            _ => match TermPart::of_letter(b) {
+                Some(which) => self.part_in(n, which, lengths),
+                None => 1,
+            },
         }
+    }
+
+    // The length of record `n`'s text, item by item of its kind's format, by the lengths of the records before.
+    #[tactic(auto, using(crate::proofs::Progress::item_fits, crate::proofs::Progress::ends_past))]
+    fn record_length(
+        &self,
+        n: usize,
+        lengths: &[usize; RECORD_LIMIT],
+        known: &mut [u32; CODE_LIMIT],
+    ) -> usize
+        requires measurable { CanMeasure self.now n }
+        requires measured_below { LengthsBelow self.now lengths.now n }
+        requires known { KnownLengths self.now.propositions known.old }
+        ensures { (result ≡ min (text_size self.now n) self.now.cap)
+            × KnownLengths self.now.propositions known.new }
+    {
+        let mut length = 0;
+        for &b in format_of(kind_at(self.records, n)) {
+            let item = self.item_length(n, b, lengths, known);
+            length = sum(length, item, self.cap);
+        }
+        length
     }
 }
 
@@ -197,12 +185,11 @@ pub fn term_length(
         style,
         cap,
     };
-    let mut known = [0u32; KNOWN_LIMIT];
+    // The memory of both tables is fixed, since a library has no heap.
+    let mut known = [0u32; CODE_LIMIT];
     let mut lengths = [0usize; RECORD_LIMIT];
     for m in 0..=n {
-        let bare = measure.bare_length(m, &lengths);
-        let label = measure.label_length(m, &mut known);
-        lengths[m] = sum(bare, label, cap);
+        lengths[m] = measure.record_length(m, &lengths, &mut known);
     }
     lengths[n]
 }

@@ -7,14 +7,14 @@ use Rattle.proof_term_length.proofs.term_length.Goals as goal
 use Rattle.proof_term_length.proofs.term_length.Goals.{else-loop-m-test, then-loop-m-test+else-m-n}
 
 pub loop-m-init : goal.loop-m-init
-loop-m-init c = (length-replicate {A = ℕ} 2048 0, (λ m h. absurd (omega arith)), none_known _ _ 4096)
+loop-m-init c = (length-replicate {A = ℕ} 2048 0, (λ m h. absurd (omega arith)), none_known _ _ 8192)
 
 pub loop-m-preserved : goal.loop-m-preserved
 loop-m-preserved c =
     let (long, below, known) = c.loop-m.invariant in (
       simp length-set long,
-      one_measured _ _ _ _ _ _ below (omega (arith, long, c.loop-m-test.true, c.requires.few)) _ c.bare_length-bare.ensures c.label_length-label.ensures.0 c.sum.ensures,
-      c.label_length-label.ensures.1,
+      one_measured _ _ _ _ _ _ below (omega (arith, long, c.loop-m-test.true, c.requires.few)) c.record_length.ensures.0,
+      c.record_length.ensures.1,
     )
 
 -- no record is left, or the last turn has measured it
@@ -24,6 +24,6 @@ returns c =
     elim c.loop-m-test.branch [
       | else-loop-m-test w ↦ rw w.lengths-is (below _ (omega (arith, w.loop-m-test.false)))
       | then-loop-m-test+else-m-n w ↦
-          let all = one_measured _ _ _ _ _ _ below (omega (arith, long, c.requires.few)) _ w.bare_length-bare.ensures w.label_length-label.ensures.0 w.sum.ensures in
+          let all = one_measured _ _ _ _ _ _ below (omega (arith, long, c.requires.few)) w.record_length.ensures.0 in
           rw w.lengths-is (all _ (omega arith))
     ]
