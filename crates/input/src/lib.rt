@@ -37,7 +37,7 @@ pub fn read_file(rt: &impl Files, path: &str, memory: &mut [u8]) -> usize
     read_full(&mut file, memory)
 }
 
-// So many bytes of an input, and zeros past its end. No contract says which, since none speaks of what an input holds.
+// So many bytes of an input, and zeros past its end. No contract says which: of a file, none says what it holds.
 pub fn read_array<const N: usize>(input: &mut impl Read) -> [u8; N] {
     let mut bytes = [0; N];
     read_full(input, &mut bytes);

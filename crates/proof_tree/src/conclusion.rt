@@ -23,7 +23,7 @@ fn or_refusal(label: Option<Label>, reason: Reason, k: usize) -> Result<Option<L
 
 // A conclusion with the pairs and the code, over so many names, that its proposition stands in. `WalkedSteps` has the same three: a struct
 // of them would save two lines in the one function that makes this of that, and each use and clause of both would go through it.
-// Pairs and code are no `Marked`: the clauses here and in sheet_term name the two lists apart.
+// Nor are pairs and code a `Marked`: no function is handed the two, so that it would shorten no list and lengthen each use by a word.
 #[derive(Clone, Copy)]
 pub struct StatedConclusion<'a> {
     pub names: usize,

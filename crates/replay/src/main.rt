@@ -107,7 +107,7 @@ fn read_u64(rest: &mut &[u8]) -> usize {
     u64::from_le_bytes(read_array(rest)) as usize
 }
 
-// The next bytes of the list, so many or all that are left.
+// The next bytes, so many or all that are left.
 fn read_bytes<'a>(rest: &mut &'a [u8], count: usize) -> &'a [u8] {
     let (bytes, behind) = rest.split_at(count.min(rest.len()));
     *rest = behind;
@@ -341,9 +341,9 @@ fn read_graft_answer(rest: &mut &[u8]) -> GraftAnswer {
 }
 
 // The host is the first of the entry's bytes, and the donor the first of those behind it.
-fn graft_agrees(rest: &mut &[u8], both: &[u8]) -> bool {
-    let (host, behind) = both.split_at(read_u32(rest).min(both.len()));
-    let donor = &behind[..read_u32(rest).min(behind.len())];
+fn graft_agrees(rest: &mut &[u8], mut both: &[u8]) -> bool {
+    let host = read_bytes(&mut both, read_u32(rest));
+    let donor = read_bytes(&mut both, read_u32(rest));
     let step = read_u64(rest);
     let room = read_u32(rest).min(ROOM);
     let expected = read_graft_answer(rest);
