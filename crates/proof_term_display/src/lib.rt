@@ -17,7 +17,7 @@ ghost use Rattle.proof_term_display.specs.Printer.{HasLabel, shown_in, shown_of_
 use definitions::Style;
 use output::Sink;
 use proof_term::{Form, Kind, Label, field, kind_at, label_at, parameter_at};
-use prop::{Propositions, put_proposition};
+use prop::Propositions;
 
 // The positions of parts.
 #[derive(Clone, Copy, PartialEq, Eq)]
@@ -178,7 +178,7 @@ fn put_label<S: Sink<u8>>(sink: &mut S, label: Label, propositions: &Proposition
         Label::Datatype(datatype) => {
             sink.put_all(propositions.memory.name(usize::from(datatype)));
         }
-        Label::Proposition(at) => put_proposition(sink, propositions, usize::from(at)),
+        Label::Proposition(at) => propositions.put(sink, usize::from(at)),
     }
 }
 

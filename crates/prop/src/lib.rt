@@ -82,103 +82,97 @@ impl Propositions<'_> {
     {
         precedence(self.memory.code(), self.ends, at)
     }
-}
 
-// A quantifier with its object and its datatype, up to its body.
-fn put_quantifier<S: Sink<u8>>(
-    sink: &mut S,
-    propositions: &Propositions,
-    q: Quantifier,
-    object: usize,
-    datatype: usize,
-)
-    requires { HasName propositions.now.memory object × HasName propositions.now.memory datatype }
-    ensures { S.puts sink.old (quantifier_head (name_of propositions.now.memory) (quantifier_meant q) object datatype) sink.new }
-{
-    sink.put_all(q.sign());
-    sink.put_all(propositions.memory.name(object));
-    sink.put(b':');
-    sink.put_all(propositions.memory.name(datatype));
-    sink.put_all(b". ");
-}
-
-// An atom with its parameters, from the name, the count and the place that its shape gives. The place moves by hand, as
-// prefix_code::parameters_end says.
-fn put_atom<S: Sink<u8>>(
-    sink: &mut S,
-    propositions: &Propositions,
-    name: usize,
-    count: u8,
-    parameters: usize,
-)
-    requires { HasAtom propositions.now name count parameters }
-    ensures { PutsAtom propositions.now name count parameters S.puts sink.old sink.new }
-{
-    sink.put_all(propositions.memory.name(name));
-    if count == 0 {
-        return;
+    // A quantifier with its object and its datatype, up to its body.
+    fn put_quantifier<S: Sink<u8>>(
+        &self,
+        sink: &mut S,
+        q: Quantifier,
+        object: usize,
+        datatype: usize,
+    )
+        requires { HasName self.now.memory object × HasName self.now.memory datatype }
+        ensures { S.puts sink.old (quantifier_head (name_of self.now.memory) (quantifier_meant q) object datatype) sink.new }
+    {
+        sink.put_all(q.sign());
+        sink.put_all(self.memory.name(object));
+        sink.put(b':');
+        sink.put_all(self.memory.name(datatype));
+        sink.put_all(b". ");
     }
-    sink.put(b'(');
-    let code = propositions.memory.code();
-    let mut i = parameters;
-    for left in (0..count).rev() {
-        sink.put_all(propositions.memory.name(number_at(code, i + 1)));
-        i += ParameterKind::of_known(code[i]).size();
-        if 0 < left {
-            sink.put_all(b", ");
+
+    // An atom with its parameters, from the name, the count and the place that its shape gives. The place moves by hand, as
+    // prefix_code::parameters_end says.
+    fn put_atom<S: Sink<u8>>(&self, sink: &mut S, name: usize, count: u8, parameters: usize)
+        requires { HasAtom self.now name count parameters }
+        ensures { PutsAtom self.now name count parameters S.puts sink.old sink.new }
+    {
+        sink.put_all(self.memory.name(name));
+        if count == 0 {
+            return;
         }
-    }
-    sink.put(b')');
-}
-
-// The text of the proposition at `at`, in brackets if it binds less strongly than `least`.
-#[cycle(put_proposition)]
-fn put_part<S: Sink<u8>>(sink: &mut S, propositions: &Propositions, at: usize, least: usize)
-    requires { HasProposition propositions.now at }
-    ensures { S.puts sink.old (part_at propositions.now at least) sink.new }
-{
-    if propositions.strength(at) < least {
         sink.put(b'(');
-        put_proposition(sink, propositions, at);
-        sink.put(b')');
-        return;
-    }
-    put_proposition(sink, propositions, at);
-}
-
-// The text of the proposition at `at`.
-#[cycle(put_proposition)]
-pub fn put_proposition<S: Sink<u8>>(sink: &mut S, propositions: &Propositions, at: usize)
-    requires { HasProposition propositions.now at }
-    ensures { S.puts sink.old (text_at propositions.now at) sink.new }
-{
-    match propositions.memory.shape(at) {
-        Shape::True => sink.put_all(b"\xE2\x8A\xA4"), // ⊤
-        Shape::False => sink.put_all(b"\xE2\x8A\xA5"), // ⊥
-        Shape::Atom {
-            name,
-            count,
-            parameters,
-        } => put_atom(sink, propositions, name, count, parameters),
-        Shape::Quantified {
-            quantifier,
-            object,
-            datatype,
-            body,
-        } => {
-            put_quantifier(sink, propositions, quantifier, object, datatype);
-            put_proposition(sink, propositions, body);
-        }
-        Shape::Binary { connective, left } => {
-            if propositions.strength(at) == ATOM_STRENGTH {
-                sink.put_all(b"\xC2\xAC"); // ¬
-                put_part(sink, propositions, left, ATOM_STRENGTH);
-                return;
+        let code = self.memory.code();
+        let mut i = parameters;
+        for left in (0..count).rev() {
+            sink.put_all(self.memory.name(number_at(code, i + 1)));
+            i += ParameterKind::of_known(code[i]).size();
+            if 0 < left {
+                sink.put_all(b", ");
             }
-            let right = propositions.ends[left] as usize;
-            put_part(sink, propositions, left, connective.left_least());
-            sink.put_all(connective.text());
-            put_part(sink, propositions, right, connective.right_least());
+        }
+        sink.put(b')');
+    }
+
+    // The text of the proposition at `at`, in brackets if it binds less strongly than `least`.
+    #[cycle(put)]
+    fn put_part<S: Sink<u8>>(&self, sink: &mut S, at: usize, least: usize)
+        requires { HasProposition self.now at }
+        ensures { S.puts sink.old (part_at self.now at least) sink.new }
+    {
+        if self.strength(at) < least {
+            sink.put(b'(');
+            self.put(sink, at);
+            sink.put(b')');
+            return;
+        }
+        self.put(sink, at);
+    }
+
+    // The text of the proposition at `at`.
+    #[cycle(put)]
+    pub fn put<S: Sink<u8>>(&self, sink: &mut S, at: usize)
+        requires { HasProposition self.now at }
+        ensures { S.puts sink.old (text_at self.now at) sink.new }
+    {
+        match self.memory.shape(at) {
+            Shape::True => sink.put_all(b"\xE2\x8A\xA4"), // ⊤
+            Shape::False => sink.put_all(b"\xE2\x8A\xA5"), // ⊥
+            Shape::Atom {
+                name,
+                count,
+                parameters,
+            } => self.put_atom(sink, name, count, parameters),
+            Shape::Quantified {
+                quantifier,
+                object,
+                datatype,
+                body,
+            } => {
+                self.put_quantifier(sink, quantifier, object, datatype);
+                self.put(sink, body);
+            }
+            Shape::Binary { connective, left } => {
+                if self.strength(at) == ATOM_STRENGTH {
+                    sink.put_all(b"\xC2\xAC"); // ¬
+                    self.put_part(sink, left, ATOM_STRENGTH);
+                    return;
+                }
+                let right = self.ends[left] as usize;
+                self.put_part(sink, left, connective.left_least());
+                sink.put_all(connective.text());
+                self.put_part(sink, right, connective.right_least());
+            }
         }
     }
 }

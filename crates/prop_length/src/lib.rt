@@ -7,7 +7,7 @@ ghost use Rattle.prop_length.specs.Length.{NameLength, TextLength};
 
 use number::pair_length;
 use output::Counter;
-use prop::{Propositions, put_proposition};
+use prop::Propositions;
 use vocabulary::Memory;
 
 // A bracket on each side.
@@ -27,6 +27,6 @@ pub fn text_length(propositions: &Propositions, at: usize) -> usize
     ensures { TextLength (text_at propositions.now at) result }
 {
     let mut length = Counter { count: 0 };
-    put_proposition(&mut length, propositions, at);
+    propositions.put(&mut length, at);
     length.count
 }

@@ -7,4 +7,4 @@ pub returns : goal.returns
 returns c =
     let p = c.args.propositions.now in
     let short = text_fits _ _ _ _ p.memory.fits (p.fits c.args.at) c.requires.known in
-    record { is = omega (arith, c.put_proposition.ensures.counted, short); small = omega (arith, c.put_proposition.ensures.counted, short) }
+    record { is = omega (arith, c.put.ensures.counted, short); small = omega (arith, c.put.ensures.counted, short) }

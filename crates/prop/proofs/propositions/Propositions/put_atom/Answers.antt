@@ -7,17 +7,17 @@ use Rattle.vocabulary.specs.Vocabulary.{name_in}
 use Rattle.prop.proofs.Atoms.{NameAt, bare_atom, full_atom, listing_starts, parameter_name_lem}
 use Rattle.prop.proofs.Atoms.{listing_last, listing_comma, listing_ends}
 use Rattle.prop.proofs.Shown.{put_as}
-use Rattle.prop.proofs.put_atom.Goals as goal
-use Rattle.prop.proofs.put_atom.Goals.{In-loop-left, After-size-i}
+use Rattle.prop.proofs.propositions.Propositions.put_atom.Goals as goal
+use Rattle.prop.proofs.propositions.Propositions.put_atom.Goals.{In-loop-left, After-size-i}
 
 -- a name stands at the parameter that is the next
-parameter : (g : _) (c : In-loop-left g) → NameAt c.args.propositions.now.memory.vocabulary.name_count c.code-code.result.now c.loop-left.i 3
+parameter : (g : _) (c : In-loop-left g) → NameAt c.args.self.now.memory.vocabulary.name_count c.code-code.result.now c.loop-left.i 3
 parameter g c =
     parameter_name_lem _ _ _ _ g.met.S.Sink.laws (c.loop-left.invariant c.requires.parameters c.requires.rest (rw c.code-code.ensures c.requires.stands))
     c.loop-left-test.true
 
 -- and the parameter ends behind its bytes
-ended : (g : _) (c : After-size-i g) → let names = c.args.propositions.now.memory.vocabulary.name_count in
+ended : (g : _) (c : After-size-i g) → let names = c.args.self.now.memory.vocabulary.name_count in
     NameAt names c.code-code.result.now c.loop-left.i 3
     → Ends (parameter_coding names) c.code-code.result.now c.loop-left.i (c.loop-left.i + c.size-i.result)
 ended g c there = rw c.size-i.ensures (there.ends c.of_known.result c.of_known.ensures)

@@ -1,5 +1,5 @@
 -- The sign, the object, a colon, the datatype and a full stop, one after the other.
-use Rattle.prop.proofs.put_quantifier.Goals as goal
+use Rattle.prop.proofs.propositions.Propositions.put_quantifier.Goals as goal
 
 pub returns : goal.returns
 returns g c =
