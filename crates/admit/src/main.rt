@@ -14,7 +14,7 @@ fn answer_file(rt: &(impl Files + Print), path: &str) -> io::Result<()> {
     let count = input::read_file(rt, path, &mut bytes);
     match sheet::answer(&bytes[..count]) {
         Ok(_) => println!(rt; "{path}: accepted"),
-        Err(refusal) => println!(rt; "{path}: refused {} at {}", refusal.number, refusal.place),
+        Err(refusal) => println!(rt; "{path}: {refusal}"),
     }
 }
 

@@ -4,6 +4,8 @@
 ghost use Rattle.std.specs.Prelude.{◌≡◌, ◌<◌};
 ghost use Rattle.definitions.specs.Reason.{number_of};
 
+use std::fmt;
+
 // Why an input is refused, by the numbers of documents 01 and 02.
 #[derive(Clone, Copy, PartialEq, Eq)]
 pub enum Reason {
@@ -62,6 +64,13 @@ pub struct Refusal {
     pub place: u16,
 }
 
+// As the programs print it, within a line.
+impl fmt::Display for Refusal {
+    fn fmt<W: fmt::Write>(&self, f: &mut fmt::Formatter<W>) -> fmt::Result {
+        write!(f, "refused {} at {}", self.number, self.place)
+    }
+}
+
 // A refusal as it is handed back: with the column of the step that it names, or 0 where it names none. It is no Option, since the C
 // interface hands out a column in every case, and 0 where none is named.
 #[derive(Clone, Copy, PartialEq, Eq)]
@@ -79,6 +88,13 @@ impl From<Refusal> for Located {
     fn from(refusal: Refusal) -> Self {
         Self { refusal, column: 0 }
     }
+}
+
+// A name, by its number, and an id, which tells objects of one name apart.
+#[derive(Debug, Clone, Copy, Default, PartialEq, Eq)]
+pub struct Identifier {
+    pub name: u16,
+    pub unique_id: u16,
 }
 
 // How a text is asked for: as the Rust prints it, or with the brackets of strict text too.

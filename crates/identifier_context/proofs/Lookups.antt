@@ -10,7 +10,7 @@ use Rattle.definitions.specs.Tree.{rename_identifier}
 use Rattle.definitions.specs.Comparison.{eq_identifier}
 use Rattle.definitions.specs.IdentifierContext.{IdentifierContext, latest, without_latest, has_name, has_identifier, get_by_name, get, remove_by_name, remove}
 use Rattle.identifier_context.specs.declared.Entry.{Entry}
-use Rattle.identifier_context.specs.declared.Identifier.{Identifier}
+use Rattle.definitions.specs.declared.Identifier.{Identifier}
 use Rattle.identifier_context.specs.declared.Lookup.{Lookup}
 use Rattle.identifier_context.specs.declared.Lookup.TheVariants.{ByName, ByIdentifier}
 use Rattle.identifier_context.specs.Memory.{entry_of, context_of}

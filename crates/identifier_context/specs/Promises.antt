@@ -8,7 +8,7 @@ use Rattle.definitions.specs.Text.{occurs, firsts_after}
 use Rattle.definitions.specs.IdentifierContext.{IdentifierContext, len, has_name, has_identifier, get_by_name, get, remove_by_name, remove, same_name}
 use Rattle.definitions.specs.IdentifierContext as definition
 use Rattle.identifier_context.specs.declared.Entry.{Entry}
-use Rattle.identifier_context.specs.declared.Identifier.{Identifier}
+use Rattle.definitions.specs.declared.Identifier.{Identifier}
 use Rattle.identifier_context.specs.declared.Lookup.{Lookup}
 use Rattle.identifier_context.specs.declared.Lookup.TheVariants.{ByName, ByIdentifier}
 use Rattle.identifier_context.specs.Memory.{entry_of, entry_at, context_of}

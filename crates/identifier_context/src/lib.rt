@@ -8,17 +8,10 @@ ghost use Rattle.identifier_context.specs.Memory.{name_at, entry_of, entry_at};
 ghost use Rattle.identifier_context.specs.Promises.{Finds, name_asked, admitted, is_visible, Shows};
 ghost use Rattle.identifier_context.specs.Lent.{name_in, IsNamed, IsHeld, InsertsInto, RemovesFrom};
 
-use definitions::{Reason, Refusal};
+use definitions::{Identifier, Reason, Refusal};
 use identifier::same_bytes;
 use number::Marked;
 use search::highest;
-
-// A name, by its number, and an id, as in a step: the context is a part of its own, as in the Rust, and knows no steps.
-#[derive(Debug, Clone, Copy, Default, PartialEq, Eq)]
-pub struct Identifier {
-    pub name: u16,
-    pub unique_id: u16,
-}
 
 // An identifier and its type: kind 0 and a proposition's number, or kind 1 and the number of a datatype's name.
 // `kind` stays a number: an insertion stores every number, and a narrower type would ask more of who inserts.

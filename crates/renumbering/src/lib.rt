@@ -13,11 +13,12 @@ ghost use Rattle.renumbering.specs.Renumbered.{mapped};
 ghost use Rattle.renumbering.specs.StepOver.{identifiers_of, name_over, conclusion_over, step_over, conclusion_bytes, step_bytes, steps_over};
 ghost use Rattle.renumbering.specs.StepOver.{ConclusionMapped, IdentifiersMapped, StepMapped, StepsMapped};
 
+use definitions::Identifier;
 use number::number_at;
 use output::Sink;
 use output::sink::{put_u16, put_u16s};
 use prefix_code::{Head, ParameterKind, known_head_end};
-use steps::{Conclusion, Identifier, Judgement, Rule, Step, step_at};
+use steps::{Conclusion, Judgement, Rule, Step, step_at};
 
 // The code of a proposition with so many names, and the map that has a number for each of these. The place stands loose: it moves from call
 // to call. What is asked and promised is one relation of a coding, `Standing` or `Renumbers`, in which each method names its own.

@@ -6,8 +6,8 @@ ghost use Rattle.std.specs.Prelude.{◌≡◌, Bool, ◌≤◌};
 ghost use Rattle.number.specs.Pairs.{NameWithin};
 ghost use Rattle.identifier_context.specs.Lent.{IsNamed, IsHeld};
 
-use definitions::Refusal;
-use identifier_context::{Context, Entry, Identifier};
+use definitions::{Identifier, Refusal};
+use identifier_context::{Context, Entry};
 use input::{read_array, read_u16};
 use number::{Marked, PAIR_SIZE, pair_length, pair_offset};
 use std::{fs, io};

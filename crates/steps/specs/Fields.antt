@@ -1,7 +1,7 @@
 -- Where the fields of a step record stand.
 use Rattle.std.specs.Prelude.{ℕ, List}
 use Rattle.definitions.specs.Sheet.{step_number}
-use Rattle.steps.specs.declared.Identifier.{Identifier}
+use Rattle.definitions.specs.declared.Identifier.{Identifier}
 use Rattle.steps.specs.declared.record.Field.{Field}
 use Rattle.steps.specs.declared.record.Field.TheVariants.{FirstName, FirstId, SecondName, SecondId, Kind, Number, UniqueId, Datatype, Column}
 

@@ -3,7 +3,7 @@ use Rattle.std.specs.Prelude.{ℕ, ◌+◌, ◌<◌, ◌≡◌, cond, List, [], 
 use Rattle.definitions.specs.Sheet.{rule_byte, premiss_count, step_number, column}
 use Rattle.definitions.specs.Tree as tree
 use Rattle.definitions.specs.Tree.{ProofTreeConclusion, prop_in}
-use Rattle.steps.specs.declared.Identifier.{Identifier}
+use Rattle.definitions.specs.declared.Identifier.{Identifier}
 use Rattle.steps.specs.declared.Judgement.{Judgement}
 use Rattle.steps.specs.declared.Conclusion.{Conclusion}
 use Rattle.steps.specs.declared.Conclusion.TheVariants.{PropIsTrue, TypeJudgement}

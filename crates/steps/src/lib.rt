@@ -13,6 +13,7 @@ ghost use Rattle.steps.specs.Records.{HasStep, HasSteps};
 ghost use Rattle.steps.specs.StepAt.{step_at};
 ghost use Rattle.steps.specs.Tables.{SizeTable, FilledSizes};
 
+use definitions::Identifier;
 use record::StepRecord;
 pub use rule::Rule;
 use search::lowest;
@@ -23,13 +24,6 @@ pub const STEP_SIZE: usize = 20;
 
 // The last column of the grid.
 pub const COLUMN_LIMIT: u16 = 4095;
-
-// A name, by its number, and an id.
-#[derive(Clone, Copy)]
-pub struct Identifier {
-    pub name: u16,
-    pub unique_id: u16,
-}
 
 // A type judgement: the name and the id of an object, and the name of its datatype.
 #[derive(Clone, Copy)]

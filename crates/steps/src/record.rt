@@ -8,7 +8,8 @@ ghost use Rattle.steps.specs.StepAt.{conclusion_at, numbers_of, step_at};
 ghost use Rattle.steps.specs.Rules.{bad_identifiers};
 
 use crate::rule::Rule;
-use crate::{COLUMN_LIMIT, Conclusion, Identifier, Judgement, STEP_SIZE, Step};
+use crate::{COLUMN_LIMIT, Conclusion, Judgement, STEP_SIZE, Step};
+use definitions::Identifier;
 use number::number_at;
 
 // The fields of a record, after the bytes of the rule and of the premiss count, by where they stand: two identifiers, then the
