@@ -1,23 +1,21 @@
 -- A step's conclusion by numbers stands for its conclusion, and lies within an accepted sheet; two are compared by their kinds.
 use Prim.Native.Nat.{ℕ, ◌<◌}
-use mathlib.Core.Path.{◌≡◌, refl, ap}
-use mathlib.Core.Bool.{Bool, ◌&&◌}
+use mathlib.Core.Path.{◌≡◌, ap}
+use mathlib.Core.Bool.{Bool}
 use mathlib.Core.List.{List}
-use lib.Dec.{eqb}
 use Rattle.definitions.specs.Outcome.{Outcome, accepted}
-use Rattle.definitions.specs.Name.{eq_name}
 use Rattle.definitions.specs.Sheet.{names, steps, proposition_pairs, code_bytes, step_records, name_of}
-use Rattle.definitions.specs.Tree.{prop_of, conclusion_of, rename_identifier, rename_conclusion}
-use Rattle.definitions.specs.Comparison.{no, alpha_eq, eq_identifier, conclusion_alpha_eq}
+use Rattle.definitions.specs.Tree.{prop_of, conclusion_of, rename_conclusion}
+use Rattle.definitions.specs.Comparison.{no, alpha_eq, conclusion_alpha_eq}
 use Rattle.definitions.specs.Answers.{named_conclusion}
 use Rattle.steps.specs.declared.Judgement.{Judgement}
 use Rattle.steps.specs.declared.Conclusion.{Conclusion}
 use Rattle.steps.specs.declared.Conclusion.TheVariants.{PropIsTrue, TypeJudgement}
-use Rattle.steps.specs.StepAt.{step_at, object_of, concluded_in}
+use Rattle.steps.specs.StepAt.{step_at, concluded_in}
 use Rattle.steps.proofs.StepAt.{conclusion_is}
 use Rattle.steps.proofs.GoodSteps.{known_conclusion}
 use Rattle.sheet.specs.Admitted.{Admitted}
-use Rattle.comparison.specs.Conclusions.{named_prop, named_object, concluded, ConclusionIn, judgement_eq, conclusion_comparison}
+use Rattle.comparison.specs.Conclusions.{named_identifier, named_prop, concluded, ConclusionIn, judgement_eq, conclusion_comparison}
 
 pub concluded_step : (s : List ℕ) (k : ℕ) → concluded s (step_at (step_records s) k).conclusion ≡ named_conclusion s k
 unfolding concluded named_conclusion conclusion_of
@@ -26,13 +24,6 @@ concluded_step s k =
 
 pub conclusion_in : {s : List ℕ} → Admitted s → (k : ℕ) → k < steps s → ConclusionIn s (step_at (step_records s) k).conclusion
 conclusion_in a k below = known_conclusion _ _ _ k (a.good_step k below)
-
--- two type judgements, by their parts
-pub by_parts : (s : List ℕ) (x y : Judgement)
-    → judgement_eq s x y
-    ≡ (eq_name (name_of s x.name) (name_of s y.name) && eqb x.unique_id y.unique_id) && eq_name (name_of s x.datatype) (name_of s y.datatype)
-unfolding judgement_eq eq_identifier named_object rename_identifier object_of
-by_parts s x y = refl
 
 -- two conclusions, by their kinds
 module _ (s : List ℕ) {left right : Conclusion} {o : Outcome Bool} where
@@ -43,7 +34,7 @@ module _ (s : List ℕ) {left right : Conclusion} {o : Outcome Bool} where
 
   pub two_judgements : {x y : Judgement} → left ≡ TypeJudgement x → right ≡ TypeJudgement y → o ≡ accepted (judgement_eq s x y)
       → o ≡ conclusion_comparison s left right
-  unfolding conclusion_comparison concluded concluded_in rename_conclusion conclusion_alpha_eq judgement_eq named_object
+  unfolding conclusion_comparison concluded concluded_in rename_conclusion conclusion_alpha_eq judgement_eq named_identifier
   two_judgements l r e = rw (l, r) e
 
   pub proposition_and_judgement : {p : ℕ} {y : Judgement} → left ≡ PropIsTrue p → right ≡ TypeJudgement y → o ≡ no

@@ -5,12 +5,12 @@
 ghost use Rattle.std.specs.Prelude.{◌≡◌, ◌<◌};
 ghost use Rattle.definitions.specs.Name.{eq_name};
 ghost use Rattle.definitions.specs.Sheet.{names, propositions, name_of};
-ghost use Rattle.definitions.specs.Comparison.{alpha_eq};
+ghost use Rattle.definitions.specs.Comparison.{eq_identifier, alpha_eq};
 ghost use Rattle.definitions.specs.Answers.{comparison};
 ghost use Rattle.sheet.specs.Checks.{outcome_of};
-ghost use Rattle.comparison.specs.Conclusions.{named_prop, JudgementIn, ConclusionIn, judgement_eq, conclusion_comparison};
+ghost use Rattle.comparison.specs.Conclusions.{named_identifier, named_prop, JudgementIn, ConclusionIn, judgement_eq, conclusion_comparison};
 
-use definitions::{Reason, Refusal};
+use definitions::{Identifier, Reason, Refusal};
 use identifier::same_bytes;
 use number::pair_offset;
 use sheet::AdmittedSheet;
@@ -26,14 +26,23 @@ fn same_named(sheet: &AdmittedSheet, a: u16, b: u16) -> bool
     same_bytes(sheet.marked_names(), a as usize, b as usize)
 }
 
-// Two type judgements: the names of the objects, by their bytes, their ids, the names of the datatypes. Those of two sheets are
-// compared over two vocabularies elsewhere; here equal numbers need no look at the bytes.
+// Two identifiers: their names, by their bytes, and their ids.
+#[tactic(auto, unfolding(definitions::specs::Tree::rename_identifier, definitions::specs::Comparison::eq_identifier, steps::specs::StepAt::identifier_of, crate::specs::Conclusions::named_identifier))]
+fn same_identifier(sheet: &AdmittedSheet, x: Identifier, y: Identifier) -> bool
+    requires { (x.«name» < names sheet.now) × (y.«name» < names sheet.now) }
+    ensures { result ≡ eq_identifier (named_identifier sheet.now x) (named_identifier sheet.now y) }
+{
+    same_named(sheet, x.name, y.name) && x.unique_id == y.unique_id
+}
+
+// Two type judgements: their objects, and the names of the datatypes. Those of two sheets are compared over two vocabularies
+// elsewhere; here equal numbers need no look at the bytes.
+#[tactic(auto, unfolding(crate::specs::Conclusions::judgement_eq))]
 fn same_judgement(sheet: &AdmittedSheet, x: Judgement, y: Judgement) -> bool
     requires { JudgementIn sheet.now x × JudgementIn sheet.now y }
     ensures { result ≡ judgement_eq sheet.now x y }
 {
-    let same_object = same_named(sheet, x.name, y.name) && x.unique_id == y.unique_id;
-    same_object && same_named(sheet, x.datatype, y.datatype)
+    same_identifier(sheet, x.object, y.object) && same_named(sheet, x.datatype, y.datatype)
 }
 
 // Two propositions, by their numbers.

@@ -16,7 +16,7 @@ use Rattle.steps.specs.declared.Conclusion.{Conclusion}
 use Rattle.steps.specs.declared.Step.{Step}
 use Rattle.steps.specs.declared.Conclusion.TheVariants.{PropIsTrue, TypeJudgement}
 use Rattle.steps.specs.Records.{HasStep}
-use Rattle.steps.specs.StepAt.{step_at, object_of, concluded_in, KnownConclusion}
+use Rattle.steps.specs.StepAt.{step_at, identifier_of, concluded_in, KnownConclusion}
 use Rattle.steps.proofs.StepAt.{conclusion_is}
 use Rattle.steps.proofs.GoodSteps.{known_conclusion}
 use Rattle.vocabulary.specs.declared.Vocabulary.{Vocabulary}
@@ -29,19 +29,19 @@ use Rattle.equal_conclusions.specs.Equality.{same_proposition, same_judgement}
 
 -- two type judgements
 module _ (s t : List ℕ) (x y : Judgement) where
-  pub other_object : eq_name (name_of s x.name) (name_of t y.name) ≡ false → false ≡ same_judgement s x t y
-  unfolding same_judgement eq_identifier rename_identifier object_of
+  pub other_object : eq_name (name_of s x.object.name) (name_of t y.object.name) ≡ false → false ≡ same_judgement s x t y
+  unfolding same_judgement eq_identifier rename_identifier identifier_of
   other_object e = rw e
 
-  module _ (object : eq_name (name_of s x.name) (name_of t y.name) ≡ true) where
-    pub other_id : (x.unique_id ≡ y.unique_id → ⊥) → false ≡ same_judgement s x t y
-    unfolding same_judgement eq_identifier rename_identifier object_of
-    other_id apart = rw (object, ne_eqb x.unique_id y.unique_id apart)
+  module _ (object : eq_name (name_of s x.object.name) (name_of t y.object.name) ≡ true) where
+    pub other_id : (x.object.unique_id ≡ y.object.unique_id → ⊥) → false ≡ same_judgement s x t y
+    unfolding same_judgement eq_identifier rename_identifier identifier_of
+    other_id apart = rw (object, ne_eqb x.object.unique_id y.object.unique_id apart)
 
-    pub by_datatype : x.unique_id ≡ y.unique_id → {b : Bool} → b ≡ eq_name (name_of s x.datatype) (name_of t y.datatype)
+    pub by_datatype : x.object.unique_id ≡ y.object.unique_id → {b : Bool} → b ≡ eq_name (name_of s x.datatype) (name_of t y.datatype)
         → b ≡ same_judgement s x t y
-    unfolding same_judgement eq_identifier rename_identifier object_of
-    by_datatype id e = rw (object, eq-eqb x.unique_id y.unique_id id) e
+    unfolding same_judgement eq_identifier rename_identifier identifier_of
+    by_datatype id e = rw (object, eq-eqb x.object.unique_id y.object.unique_id id) e
 
 -- the steps of an accepted sheet
 module _ {s : List ℕ} {h : Sheet} (a : AcceptedSheet s h) where

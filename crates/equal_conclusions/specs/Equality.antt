@@ -9,7 +9,7 @@ use Rattle.definitions.specs.Sheet.{name_of}
 use Rattle.definitions.specs.Tree.{prop_of, rename_identifier}
 use Rattle.renumbering.specs.Renumbered.{mapped}
 use Rattle.steps.specs.declared.Judgement.{Judgement}
-use Rattle.steps.specs.StepAt.{object_of}
+use Rattle.steps.specs.StepAt.{identifier_of}
 
 -- the code of a sheet's proposition over the numbers that a map has for its names
 unfoldable pub code_over : List ℕ → List ℕ → ℕ → List ℕ
@@ -22,5 +22,5 @@ same_proposition s p t q = eq_prop (rename_prop (name_of s) (prop_of s p)) (rena
 -- whether type judgements of two sheets are
 unfoldable pub same_judgement : List ℕ → Judgement → List ℕ → Judgement → Bool
 same_judgement s x t y =
-    eq_identifier (rename_identifier (name_of s) (object_of x)) (rename_identifier (name_of t) (object_of y))
+    eq_identifier (rename_identifier (name_of s) (identifier_of x.object)) (rename_identifier (name_of t) (identifier_of y.object))
     && eq_name (name_of s x.datatype) (name_of t y.datatype)

@@ -60,10 +60,10 @@ fn same_judgements(sheets: &NumberedSheets, x: Judgement, y: Judgement) -> bool
 {
     let host = sheets.host.memory();
     let donor = sheets.donor.memory();
-    if !host.same_name(x.name as usize, &donor, y.name as usize) {
+    if !host.same_name(x.object.name as usize, &donor, y.object.name as usize) {
         return false;
     }
-    if x.unique_id != y.unique_id {
+    if x.object.unique_id != y.object.unique_id {
         return false;
     }
     host.same_name(x.datatype as usize, &donor, y.datatype as usize)

@@ -19,6 +19,7 @@ use Rattle.graft_laws.proofs.MergedSheet.{rename_same}
 use Rattle.graft_laws.proofs.MergedFields.{tests}
 use Rattle.graft_laws.proofs.MergedSteps.{good_step}
 use Rattle.output.specs.Numbers.{u16s}
+use Rattle.steps.specs.declared.Judgement.{Judgement}
 use Rattle.steps.specs.declared.Conclusion.TheVariants.{PropIsTrue, TypeJudgement}
 use Rattle.steps.specs.StepAt.{identifier_at, conclusion_at, step_at}
 use Rattle.renumbering.specs.Renumbered.{mapped}
@@ -64,7 +65,7 @@ module _ (h d numbers : List ℕ) (filled : (n : ℕ) → n < names d → mapped
         ≡ u16 (step_number R k 10)
         ++ (u16 (cond b (propositions h + step_number R k 12) (renumbered h d (step_number R k 12)))
         ++ (u16 (step_number R k 14) ++ (u16 (donor_name h d (step_number R k 16) (not b)) ++ u16 (column R k))))
-    unfolding conclusion_bytes conclusion_over conclusion_at donor_name u16s u16
+    unfolding conclusion_bytes conclusion_over conclusion_at identifier_at donor_name u16s u16
     conclusion_same true is =
         let t = tests (names d) (propositions d) R k good in
         let z = zeros (names d) (propositions d) R k t.conclusion is in
@@ -95,24 +96,24 @@ step_mapped n p records k shift numbers good long room =
       rule = leb-false _ _ t.rule;
       first = λ e. omega (arith, g.first e);
       second = λ e. omega (arith, g.second e);
-      conclusion = by_kind (eqb (step_number records k 10) 0) (λ e. omega (arith, g.proposition e)) (λ e. omega (arith, g.object e)) (λ e. omega (arith, g.datatype e));
+      conclusion = by_kind (eqb (step_number records k 10) 0) (step_number records k 12)
+          (record { object = identifier_at records k 12; datatype = step_number records k 16 })
+          (λ e. omega (arith, g.proposition e)) (λ e. omega (arith, g.object e)) (λ e. omega (arith, g.datatype e));
     }
   where
-    by_kind : (b : Bool) → (b ≡ true → shift + step_number records k 12 < 65536) → (b ≡ false → step_number records k 12 < length numbers)
-        → (b ≡ false → step_number records k 16 < length numbers)
-        → ConclusionMapped (cond b (PropIsTrue (step_number records k 12))
-        (TypeJudgement (record { name = step_number records k 12; unique_id = step_number records k 14; datatype = step_number records k 16 }))) shift numbers
-    by_kind true a b c =
+    by_kind : (b : Bool) (p : ℕ) (x : Judgement) → (b ≡ true → shift + p < 65536) → (b ≡ false → x.object.name < length numbers)
+        → (b ≡ false → x.datatype < length numbers) → ConclusionMapped (cond b (PropIsTrue p) (TypeJudgement x)) shift numbers
+    by_kind true p x a b c =
         record {
-          proposition = λ q e. let same : step_number records k 12 ≡ q = cc in rw (← same) (a refl);
-          object = λ x e. absurd (grind arith);
-          datatype = λ x e. absurd (grind arith);
+          proposition = λ q e. let same : p ≡ q = cc in rw (← same) (a refl);
+          object = λ y e. absurd (grind arith);
+          datatype = λ y e. absurd (grind arith);
         }
-    by_kind false a b c =
+    by_kind false p x a b c =
         record {
           proposition = λ q e. absurd (grind arith);
-          object = λ x e. let same : step_number records k 12 ≡ x.name = cc in rw (← same) (b refl);
-          datatype = λ x e. let same : step_number records k 16 ≡ x.datatype = cc in rw (← same) (c refl);
+          object = λ y e. let same : x ≡ y = cc in rw (← same) (b refl);
+          datatype = λ y e. let same : x ≡ y = cc in rw (← same) (c refl);
         }
 
 each_same : (n : ℕ) (f g : ℕ → List ℕ) → ((k : ℕ) → k < n → f k ≡ g k) → map f (up_to n) ≡ map g (up_to n)

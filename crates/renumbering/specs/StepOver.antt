@@ -22,7 +22,7 @@ module _ (f : ℕ → ℕ) where
   unfoldable pub conclusion_over : ℕ → Conclusion → Conclusion
   conclusion_over shift (PropIsTrue p) = PropIsTrue (shift + p)
   conclusion_over shift (TypeJudgement x) =
-      TypeJudgement (record { name = f x.name; unique_id = x.unique_id; datatype = f x.datatype })
+      TypeJudgement (record { object = record { name = f x.object.name; unique_id = x.object.unique_id }; datatype = f x.datatype })
 
   unfoldable pub step_over : ℕ → Step → Step
   step_over shift s =
@@ -38,7 +38,7 @@ module _ (f : ℕ → ℕ) where
 -- a conclusion and the column after it, as bytes
 unfoldable pub conclusion_bytes : Conclusion → ℕ → List ℕ
 conclusion_bytes (PropIsTrue p) column = u16s (0 ∷ p ∷ 0 ∷ 0 ∷ column ∷ [])
-conclusion_bytes (TypeJudgement x) column = u16s (1 ∷ x.name ∷ x.unique_id ∷ x.datatype ∷ column ∷ [])
+conclusion_bytes (TypeJudgement x) column = u16s (1 ∷ x.object.name ∷ x.object.unique_id ∷ x.datatype ∷ column ∷ [])
 
 -- the record of a step
 unfoldable pub step_bytes : Step → List ℕ
@@ -53,7 +53,7 @@ steps_over f shift records steps = concat (map (λ k. step_bytes (step_over f sh
 -- the names of a conclusion have numbers in the map, and the number of its proposition fits
 pub record ConclusionMapped (c : Conclusion) (shift : ℕ) (numbers : List ℕ) : Type 0 where
   pub proposition : (p : ℕ) → c ≡ PropIsTrue p → shift + p < 65536
-  pub object : (x : Judgement) → c ≡ TypeJudgement x → x.name < length numbers
+  pub object : (x : Judgement) → c ≡ TypeJudgement x → x.object.name < length numbers
   pub datatype : (x : Judgement) → c ≡ TypeJudgement x → x.datatype < length numbers
 
 -- so it is with the identifiers of a step, whose rule is one

@@ -122,8 +122,8 @@ fn renumber_identifiers(numbers: &[u16], step: &Step) -> (u16, u16)
     let second = step.second.name;
     match Rule::of_byte(step.rule).map_or(0, Rule::identifier_count) {
         0 => (first, second),
-        1 => (numbers[usize::from(first)], second),
-        _ => (numbers[usize::from(first)], numbers[usize::from(second)]),
+        1 => (numbers[first as usize], second),
+        _ => (numbers[first as usize], numbers[second as usize]),
     }
 }
 
@@ -136,8 +136,10 @@ fn renumber_conclusion(numbers: &[u16], conclusion: Conclusion, shift: usize) ->
     match conclusion {
         Conclusion::PropIsTrue(p) => Conclusion::PropIsTrue((shift + p as usize) as u16),
         Conclusion::TypeJudgement(x) => Conclusion::TypeJudgement(Judgement {
-            name: numbers[x.name as usize],
-            unique_id: x.unique_id,
+            object: Identifier {
+                name: numbers[x.object.name as usize],
+                ..x.object
+            },
             datatype: numbers[x.datatype as usize],
         }),
     }

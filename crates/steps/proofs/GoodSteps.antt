@@ -21,7 +21,7 @@ first_tried has a b h e = sym (rw h) ∙ e
 
 -- what the tests of a conclusion's numbers leave
 known_numbers : (names propositions : ℕ) (zero one rest : Bool) (p : ℕ) (x : Judgement)
-    → cond zero (leb propositions p || rest) (cond one (leb names x.name || leb names x.datatype) true) ≡ false
+    → cond zero (leb propositions p || rest) (cond one (leb names x.object.name || leb names x.datatype) true) ≡ false
     → KnownConclusion names propositions (cond zero (PropIsTrue p) (TypeJudgement x))
 known_numbers names propositions true one rest p x e =
     record {
@@ -77,8 +77,8 @@ module _ (names propositions : ℕ) (records : List ℕ) (k : ℕ) (good : bad_s
   known_second = known_identifier 6 2 passes.second
 
   pub known_conclusion : KnownConclusion names propositions (step_at records k).conclusion
-  unfolding step_at conclusion_at bad_conclusion bad_prop_is_true bad_type_judgement no_name
+  unfolding step_at conclusion_at identifier_at bad_conclusion bad_prop_is_true bad_type_judgement no_name
   known_conclusion =
       let number = step_number records k in
       known_numbers names propositions (eqb (number 10) 0) (eqb (number 10) 1) _ (number 12)
-      (record { name = number 12; unique_id = number 14; datatype = number 16 }) passes.conclusion
+      (record { object = identifier_at records k 12; datatype = number 16 }) passes.conclusion

@@ -19,8 +19,7 @@ module _ (records : List ℕ) (k : ℕ) where
   unfoldable pub conclusion_at : Conclusion
   conclusion_at =
       cond (eqb (step_number records k 10) 0) (PropIsTrue (step_number records k 12))
-      (TypeJudgement
-      (record { name = step_number records k 12; unique_id = step_number records k 14; datatype = step_number records k 16 }))
+      (TypeJudgement (record { object = identifier_at 12; datatype = step_number records k 16 }))
 
   unfoldable pub step_at : Step
   step_at =
@@ -36,24 +35,21 @@ module _ (records : List ℕ) (k : ℕ) where
 -- the numbers that a record has for a conclusion
 unfoldable pub numbers_of : Conclusion → List ℕ
 numbers_of (PropIsTrue p) = 0 ∷ p ∷ 0 ∷ 0 ∷ []
-numbers_of (TypeJudgement x) = 1 ∷ x.name ∷ x.unique_id ∷ x.datatype ∷ []
+numbers_of (TypeJudgement x) = 1 ∷ x.object.name ∷ x.object.unique_id ∷ x.datatype ∷ []
 
--- the identifier and the object of a judgement that the numbers stand for
+-- the identifier that the numbers stand for
 unfoldable pub identifier_of : Identifier → tree.Identifier ℕ
 identifier_of x = record { name = x.name; unique_id = x.unique_id }
-
-unfoldable pub object_of : Judgement → tree.Identifier ℕ
-object_of x = record { name = x.name; unique_id = x.unique_id }
 
 -- Of the count of names, the propositions' pairs and the code bytes: the conclusion, and the step of a number
 module _ (names : ℕ) (pairs code : List ℕ) where
   unfoldable pub concluded_in : Conclusion → ProofTreeConclusion ℕ
   concluded_in (PropIsTrue p) = tree.PropIsTrue (prop_in names pairs code p)
-  concluded_in (TypeJudgement x) = tree.TypeJudgement (object_of x) x.datatype
+  concluded_in (TypeJudgement x) = tree.TypeJudgement (identifier_of x.object) x.datatype
 
 -- the names of a type judgement are below a count, or the number of a proposition is
 pub record KnownJudgement (names : ℕ) (x : Judgement) : Type 0 where
-  pub object : x.name < names
+  pub object : x.object.name < names
   pub datatype : x.datatype < names
 
 pub record KnownConclusion (names propositions : ℕ) (c : Conclusion) : Type 0 where

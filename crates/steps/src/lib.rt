@@ -25,11 +25,10 @@ pub const STEP_SIZE: usize = 20;
 // The last column of the grid.
 pub const COLUMN_LIMIT: u16 = 4095;
 
-// A type judgement: the name and the id of an object, and the name of its datatype.
+// A type judgement: an object, and the name of its datatype.
 #[derive(Clone, Copy)]
 pub struct Judgement {
-    pub name: u16,
-    pub unique_id: u16,
+    pub object: Identifier,
     pub datatype: u16,
 }
 

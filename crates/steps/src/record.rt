@@ -50,8 +50,9 @@ impl Conclusion {
     {
         match self {
             Conclusion::PropIsTrue(p) => [PROP_IS_TRUE as u16, p, 0, 0],
-            Conclusion::TypeJudgement(x) => {
-                [TYPE_JUDGEMENT as u16, x.name, x.unique_id, x.datatype]
+            Conclusion::TypeJudgement(Judgement { object, datatype }) => {
+                let Identifier { name, unique_id } = object;
+                [TYPE_JUDGEMENT as u16, name, unique_id, datatype]
             }
         }
     }
@@ -99,17 +100,15 @@ impl StepRecord<'_> {
     }
 
     // The conclusion: its kind says what the numbers after it are.
-    #[tactic(auto, unfolding(crate::specs::Fields::offset_of, crate::specs::StepAt::conclusion_at))]
+    #[tactic(auto, unfolding(crate::specs::Fields::offset_of, crate::specs::StepAt::identifier_at, crate::specs::StepAt::conclusion_at))]
     fn conclusion(&self) -> Conclusion
         ensures { result ≡ conclusion_at self.now.step_records.now self.now.k }
     {
-        let first = self.number(Field::Number) as u16;
         if self.number(Field::Kind) == PROP_IS_TRUE {
-            return Conclusion::PropIsTrue(first);
+            return Conclusion::PropIsTrue(self.number(Field::Number) as u16);
         }
         Conclusion::TypeJudgement(Judgement {
-            name: first,
-            unique_id: self.number(Field::UniqueId) as u16,
+            object: self.identifier(Field::Number, Field::UniqueId),
             datatype: self.number(Field::Datatype) as u16,
         })
     }

@@ -1,5 +1,4 @@
 -- The bytes that the two pairs mark are the names.
-use Rattle.definitions.specs.Sheet.{name_of}
 use Rattle.sheet.proofs.Admitted.{name_within}
 use Rattle.comparison.proofs.same_named.Goals as goal
 

@@ -15,7 +15,7 @@ same_name-requires c =
     rw (v.bytes, w.bytes) (name_here (with_header v.accepted) v.vocabulary x.object, name_here (with_header w.accepted) w.vocabulary y.object)
 
 -- what the first question says
-objects : (c : After-same_name) → c.same_name.result ≡ eq_name (name_of c.args.sheets.now.host.now c.args.x.name) (name_of c.args.sheets.now.donor.now c.args.y.name)
+objects : (c : After-same_name) → c.same_name.result ≡ eq_name (name_of c.args.sheets.now.host.now c.args.x.object.name) (name_of c.args.sheets.now.donor.now c.args.y.object.name)
 objects c =
     let v = c.memory-host.ensures in
     let w = c.memory-donor.ensures in
