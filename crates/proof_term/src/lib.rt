@@ -10,9 +10,9 @@ ghost use Rattle.std.specs.Prelude.{◌≡◌, ℕ, ◌+◌, ◌*◌, ◌≤◌,
 ghost use Rattle.definitions.specs.Prop.{Prop};
 ghost use Rattle.definitions.specs.Term.{annotation_count};
 ghost use Rattle.proof_term.specs.Records.{record_size, field_at, term_at};
-ghost use Rattle.proof_term.specs.Views.{kind_number, node_kind, node_numbers, node_term, PartsBelow};
+ghost use Rattle.proof_term.specs.Views.{kind_number, node_kind, node_numbers, PartsBelow};
 ghost use Rattle.proof_term.specs.Tally.{tally_limit, sum_over, tally_over, NodesTallied};
-ghost use Rattle.proof_term.specs.Making.{Pushed, Made};
+ghost use Rattle.proof_term.specs.Making.{Pushed};
 
 pub use forms::Form;
 pub use nodes::{Kind, Label, Node, kind_at, label_at, node_at, parameter_at, parts_at};
@@ -37,7 +37,7 @@ pub const PROPOSITION: u16 = 1;
 
 pub const DATATYPE: u16 = 2;
 
-// Stores record `used` of a node and gives the number of the next one. Below, `make` sums the tally. The reader of terms hands its own:
+// Stores record `used` of a node and gives the number of the next one. `TermRecords::make` sums the tally. The reader of terms hands its own:
 // what it has in hand counts its labels, and by `make` each of its terms would owe that its parts are earlier records, which keep these
 // counts. It is no method of `TermRecords`: the reader has the memory in its `Work` and the number in a `Progress`, a value that it hands
 // on.
@@ -81,15 +81,6 @@ fn tally_over(records: &[u16], used: usize, node: Node) -> usize
     sum_over(own, &numbers[..node.kind().part_count()], |part| {
         field(records, part, TALLY)
     })
-}
-
-// Makes record `used` of a node over earlier records, with its tally, and gives the number of the next one.
-fn make(records: &mut [u16], used: usize, node: Node) -> usize
-    requires { (record_size * (used + 1) ≤ length records.old) × PartsBelow used node }
-    ensures { Made (λ props part. node_term props part node) records.old used records.new result }
-{
-    let tally = tally_over(records, used, node);
-    push(records, used, node, tally as u16)
 }
 
 // Number `i` of record `n`; number 0 is the kind, number 6 the tally.

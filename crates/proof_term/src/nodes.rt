@@ -132,8 +132,8 @@ pub enum Node {
     Sorry,
 }
 
-// The numbers of a label in a record: its kind, and the number itself.
 impl Label {
+    // Its numbers in a record: its kind, and the number itself.
     fn numbers(self) -> (u16, u16)
         ensures { result ≡ label_numbers self }
     {

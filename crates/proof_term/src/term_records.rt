@@ -5,7 +5,7 @@ ghost use Rattle.proof_term.specs.Views.{node_term, PartsBelow};
 ghost use Rattle.proof_term.specs.Making.{Made};
 ghost use Rattle.proof_term.specs.InPlace.{InPlace};
 
-use crate::{Node, make};
+use crate::{Node, push, tally_over};
 
 #[derive(Drop)]
 pub struct TermRecords<'a> {
@@ -20,6 +20,8 @@ impl TermRecords<'_> {
         ensures { InPlace (Made (λ props part. node_term props part node)) self.old self.new }
     {
         let used = self.used;
-        self.used = make(self.numbers, used, node);
+        let numbers = &mut *self.numbers;
+        let tally = tally_over(numbers, used, node);
+        self.used = push(numbers, used, node, tally as u16);
     }
 }
