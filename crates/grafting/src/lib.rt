@@ -70,8 +70,8 @@ fn number_names(
     host_numbers: &mut [u16; Sheet::NAME_LIMIT],
     donor_numbers: &mut [u16; Sheet::NAME_LIMIT],
 )
-    ensures numbered { Numbered host.now host.now (names host.now) host_numbers.new }
-    ensures numbered_2 { Numbered host.now donor.now (names donor.now)
+    ensures host_numbered { Numbered host.now host.now (names host.now) host_numbers.new }
+    ensures donor_numbered { Numbered host.now donor.now (names donor.now)
         donor_numbers.new }
     ensures accepted { Accepted host.now × Accepted donor.now }
 {
@@ -172,7 +172,7 @@ pub fn graft<'a>(
         out.old out.new result }
     ensures slots_after { slots.new ≡ slots_by
         (graft_answer host.now donor.now k (length out.old)) slots.old }
-    ensures by_index { (n : ℕ) → result ≡ Ok n
+    ensures merges { (n : ℕ) → result ≡ Ok n
         → Merges host.now donor.now k (take n out.new) }
 {
     let mut host_sizes = [0u16; Sheet::STEP_LIMIT];

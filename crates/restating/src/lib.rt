@@ -38,8 +38,8 @@ pub struct Given {
 
 // The new step's record: AlphaEquivalent over one premiss, without identifiers, and what is given. What is given may be no conclusion,
 // so it is written number by number, into an array of the size of a record.
-fn put_record(out: &mut [u8; Sheet::STEP_SIZE], given: Given)
-    ensures { out.new ≡ new_record (given_of given) }
+fn new_record(given: Given) -> [u8; Sheet::STEP_SIZE]
+    ensures { result ≡ new_record (given_of given) }
 {
     let rule = [Rule::AlphaEquivalent as u8, 1, 0, 0, 0, 0, 0, 0, 0, 0];
     let conclusion = [
@@ -49,9 +49,14 @@ fn put_record(out: &mut [u8; Sheet::STEP_SIZE], given: Given)
         given.third,
         given.column,
     ];
-    let mut writer = Writer { out, to: 0 };
+    let mut step = [0u8; Sheet::STEP_SIZE];
+    let mut writer = Writer {
+        out: &mut step,
+        to: 0,
+    };
     writer.put_all(&rule);
     put_u16s(&mut writer, &conclusion);
+    step
 }
 
 // The header of a sheet.
@@ -152,8 +157,7 @@ fn restate_accepted(sheet: &SizedSheet, given: Given, out: &mut [u8]) -> Result<
     ensures { Fills (restate_answer sheet.now (given_of given) (length out.old))
         out.old out.new result }
 {
-    let mut step = [0u8; Sheet::STEP_SIZE];
-    put_record(&mut step, given);
+    let step = new_record(given);
     let same = judge(sheet, &step)?;
     if !same {
         return Err(Reason::NotAlphaEqual.at(0));
@@ -190,7 +194,7 @@ pub fn restate(
         out.old out.new result }
     ensures slots_after { slots.new ≡ slots_after
         (restate_answer s.now (given_of given) (length out.old)) slots.old }
-    ensures by_index { (n : ℕ) → result ≡ Ok n
+    ensures restates { (n : ℕ) → result ≡ Ok n
         → Restates s.now (given_of given) (take n out.new) }
 {
     let mut sizes = [0u16; Sheet::STEP_LIMIT];

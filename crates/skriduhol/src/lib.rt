@@ -193,7 +193,7 @@ pub fn restate(
         out.old out.new result }
     ensures slots_after { slots.new ≡ slots_after
         (restate_answer s.now (given_of given) (length out.old)) slots.old }
-    ensures by_index { (n : ℕ) → result ≡ Ok n
+    ensures restates { (n : ℕ) → result ≡ Ok n
         → Restates s.now (given_of given) (take n out.new) }
 {
     let written = restating::restate(s, given, slots, out);
@@ -237,7 +237,7 @@ pub fn graft<'a>(
         (graft_answer host.now donor.now k (length out.old)) out.old out.new result }
     ensures slots_after { slots.new ≡ slots_by
         (graft_answer host.now donor.now k (length out.old)) slots.old }
-    ensures by_index { (n : ℕ) → result ≡ Ok n
+    ensures merges { (n : ℕ) → result ≡ Ok n
         → Merges host.now donor.now k (take n out.new) }
 {
     let merged = grafting::graft(host, k, donor, slots, out);
@@ -307,7 +307,7 @@ pub fn find_name<'a>(
     name: &[u8],
 ) -> Result<Option<usize>, Located>
     ensures value { result ≡ searched_of s.now (find_answer s.now slots.now name.now) }
-    ensures value_2 { slots.now ≡ index_of s.now
+    ensures by_own_index { slots.now ≡ index_of s.now
         → result ≡ searched_of s.now (plain_answer s.now name.now) }
 {
     let checked = check_header(s);

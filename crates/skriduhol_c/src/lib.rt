@@ -499,7 +499,7 @@ pub extern "C" fn skriduhol_find_name(
 ) -> u8
     ensures hands { Hands number_or_free sheet.now
         (find_answer sheet.now slots.now name.now) value.new column.new result }
-    ensures hands_2 { slots.now ≡ index_of sheet.now → Hands number_or_free sheet.now
+    ensures by_own_index { slots.now ≡ index_of sheet.now → Hands number_or_free sheet.now
         (plain_answer sheet.now name.now) value.new column.new result }
 {
     let searched = skriduhol::find_name(sheet, slots, name);

@@ -38,7 +38,7 @@ returns-in_err-h c =
     record {
       fills_by = handed;
       slots_after = slots;
-      by_index = bytes-merge _ _ _ _ (λ i. omega (arith, c.type_inv.host i)) (λ i. omega (arith, c.type_inv.donor i)) handed;
+      merges = bytes-merge _ _ _ _ (λ i. omega (arith, c.type_inv.host i)) (λ i. omega (arith, c.type_inv.donor i)) handed;
     }
 
 pub returns-in_err-g : goal.returns-in_err-g
@@ -51,7 +51,7 @@ returns-in_err-g c =
     record {
       fills_by = handed;
       slots_after = slots;
-      by_index = bytes-merge _ _ _ _ (λ i. omega (arith, c.type_inv.host i)) (λ i. omega (arith, c.type_inv.donor i)) handed;
+      merges = bytes-merge _ _ _ _ (λ i. omega (arith, c.type_inv.host i)) (λ i. omega (arith, c.type_inv.donor i)) handed;
     }
 
 pub returns : goal.returns
@@ -65,5 +65,5 @@ returns c =
     record {
       fills_by = answer;
       slots_after = slots ∙ slots-of-neither (with_header ours) (with_header theirs) ours.bytes theirs.bytes _ _ _;
-      by_index = bytes-merge _ _ _ _ ours.bytes theirs.bytes answer;
+      merges = bytes-merge _ _ _ _ ours.bytes theirs.bytes answer;
     }

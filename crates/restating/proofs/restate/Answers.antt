@@ -8,9 +8,9 @@ pub returns-in_err-sheet : goal.returns-in_err-sheet
 returns-in_err-sheet c =
     let answer = sheet-refused _ _ c.in_err-sheet.ensures _ _ in
     let handed = told answer (search rules) in
-    record { fills = handed; slots_after = slots_kept _ _ _ answer refl _; by_index = bytes-restate _ _ _ handed }
+    record { fills = handed; slots_after = slots_kept _ _ _ answer refl _; restates = bytes-restate _ _ _ handed }
 
 pub returns : goal.returns
 returns c =
     let record { fills = answer; slots_after = slots } = rw c.in_ok-sheet.ensures.0 at c.restate_indexed.ensures in
-    record { fills = answer; slots_after = slots; by_index = bytes-restate _ _ _ answer }
+    record { fills = answer; slots_after = slots; restates = bytes-restate _ _ _ answer }

@@ -35,7 +35,7 @@ returns-in_err-h c =
     let passed : Err c.in_err-h.field-0.0 ≡ c.from_residual.result = search rules in
     let (_, was, at) = refused_back _ c.check_header-checked.result (located_here (goal.at.In_err-h here).After-map_err) c.in_err-h.was in
     let p = own_too _ _ _ (search_refused _ _ _ (stage_refuses _ _ c.check_header-checked.ensures was) at) in
-    rw (← passed) (record { value = p.0; value_2 = p.1 })
+    rw (← passed) (record { value = p.0; by_own_index = p.1 })
 
 pub vocabulary-requires : goal.vocabulary-requires
 vocabulary-requires c = (has_header (goal.at.vocabulary-requires c).In_ok-h).in_range
@@ -51,4 +51,4 @@ pub returns : goal.returns
 returns c =
     let passed = (goal.at.returns c).In_ok-h in
     let p = own_too _ _ _ (search_found _ _ _ (has_header passed) (has_passed passed) (rw c.vocabulary.ensures at c.find.ensures)) in
-    record { value = p.0; value_2 = p.1 }
+    record { value = p.0; by_own_index = p.1 }

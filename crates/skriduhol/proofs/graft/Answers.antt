@@ -8,10 +8,10 @@ map_err-requires c = λ x e. let after = after_headers _ _ _ _ c.graft-merged.en
 
 pub returns : goal.returns
 returns c =
-    let record { fills_by = answer; slots_after = slots; by_index = laws } = c.graft-merged.ensures in
+    let record { fills_by = answer; slots_after = slots; merges = laws } = c.graft-merged.ensures in
     let located = mapped_by _ _ c.graft-merged.result c.map_err.ensures.cases (λ x l p. search rules) in
     record {
       grafts_of = grafts_back _ _ _ _ answer located;
       slots_after = slots;
-      by_index = λ n e. laws n (length_told _ _ c.graft-merged.result located e);
+      merges = λ n e. laws n (length_told _ _ c.graft-merged.result located e);
     }

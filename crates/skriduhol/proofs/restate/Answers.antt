@@ -10,10 +10,10 @@ map_err-requires c = λ r e. let after = restatement_after_header _ _ _ (written
 
 pub returns : goal.returns
 returns c =
-    let record { fills = answer; slots_after = slots; by_index = laws } = c.restate-written.ensures in
+    let record { fills = answer; slots_after = slots; restates = laws } = c.restate-written.ensures in
     let located = mapped _ c.restate-written.result c.map_err.ensures.cases (λ x l e p. search rules) in
     record {
       fills_of = fills_back _ answer located;
       slots_after = slots;
-      by_index = λ n e. laws n (accepted_back _ c.restate-written.result located e);
+      restates = λ n e. laws n (accepted_back _ c.restate-written.result located e);
     }

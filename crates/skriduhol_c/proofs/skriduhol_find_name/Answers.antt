@@ -11,5 +11,5 @@ returns c =
     let said = mapped number_or_free c.find_name-searched.result {r = c.map.result} c.map.ensures.cases (λ o n p. search rules) in
     record {
       hands = search_handed _ c.hand.ensures number_or_free _ (said ∙ ap (numbered number_or_free) found.value);
-      hands_2 = λ own. search_handed _ c.hand.ensures number_or_free _ (said ∙ ap (numbered number_or_free) (found.value_2 own));
+      by_own_index = λ own. search_handed _ c.hand.ensures number_or_free _ (said ∙ ap (numbered number_or_free) (found.by_own_index own));
     }

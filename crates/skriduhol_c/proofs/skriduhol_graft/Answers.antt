@@ -4,5 +4,5 @@ use Rattle.skriduhol_c.proofs.skriduhol_graft.Goals as goal
 
 pub returns : goal.returns
 returns c =
-    let record { grafts_of = answer; slots_after = slots; by_index = _ } = c.graft.ensures in
+    let record { grafts_of = answer; slots_after = slots; merges = _ } = c.graft.ensures in
     record { hands_grafted = grafts _ _ _ c.hand_grafted.ensures answer; slots_after = slots }

@@ -4,5 +4,5 @@ use Rattle.skriduhol_c.proofs.skriduhol_restate.Goals as goal
 
 pub returns : goal.returns
 returns c =
-    let record { fills_of = answer; slots_after = slots; by_index = _ } = rw c.given_in-restatement.ensures at c.restate.ensures in
+    let record { fills_of = answer; slots_after = slots; restates = _ } = rw c.given_in-restatement.ensures at c.restate.ensures in
     record { hands_filled = fills _ c.hand.ensures answer; slots_after = slots }
