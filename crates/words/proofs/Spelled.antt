@@ -1,4 +1,4 @@
--- A word is equal to another where its length and its bytes are, in turn.
+-- A word is equal to another where it is as long and has its bytes.
 use mathlib.Core.Path.{◌≡◌, refl, ap}
 use mathlib.Core.Bool.{Bool, true, false, ◌&&◌}
 use mathlib.Core.List.{List, [], ◌∷◌}
@@ -25,11 +25,11 @@ spelled [] (y ∷ p) e = absurd (omega arith)
 spelled (x ∷ w) [] e = absurd (omega arith)
 spelled (x ∷ w) (y ∷ p) e = rw (spelled w p (omega arith), behind x w p 0)
 
-pub longer : (w p : List ℕ) → (length w ≡ length p → ⊥) → eq_name w p ≡ false
+pub other_length : (w p : List ℕ) → (length w ≡ length p → ⊥) → eq_name w p ≡ false
 unfolding eq_name
-longer [] [] e = absurd (e refl)
-longer [] (y ∷ p) e = refl
-longer (x ∷ w) [] e = refl
-longer (x ∷ w) (y ∷ p) e = rw (longer w p (λ l. e (omega arith))) (grind arith)
+other_length [] [] e = absurd (e refl)
+other_length [] (y ∷ p) e = refl
+other_length (x ∷ w) [] e = refl
+other_length (x ∷ w) (y ∷ p) e = rw (other_length w p (λ l. e (omega arith))) (grind arith)
 
-pub ruleset by_bytes = (spelled, longer, nat_tests)
+pub ruleset by_bytes = (spelled, other_length, nat_tests)
