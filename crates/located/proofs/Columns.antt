@@ -11,7 +11,7 @@ use Rattle.definitions.specs.Answers.{names_step, column_of, located}
 use Rattle.definitions.specs.Sheet.{header_size, step_size, number_at, step_number, column, steps, name_pairs_start, proposition_pairs_start, steps_start, text_start, code_start, sheet_length, step_records}
 use Rattle.steps.specs.Records.{HasStep}
 use Rattle.sheet.specs.declared.header.Sheet.{Sheet}
-use Rattle.std.specs.Prelude.{Result, Ok, Option, Some, None, is_some, unwrap_or, ℕ}
+use Rattle.std.specs.Prelude.{Result, Ok, Some, None, is_some, unwrap_or, ℕ}
 use Rattle.std.specs.Result.{result_ok}
 use Rattle.sheet.specs.Header.{header_of, HasHeader}
 use Rattle.sheet.specs.Checks.{answered, short_check}

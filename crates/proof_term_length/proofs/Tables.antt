@@ -1,6 +1,8 @@
 -- What the tables hold while the records are measured.
 use Prim.Native.Nat.{ℕ, ◌+◌, ◌<◌, min}
-use mathlib.Core.Path.{◌≡◌, ◌∙◌}
+use mathlib.Core.Path.{◌≡◌, sym, ◌∙◌}
+use Rattle.std.specs.Prelude.{Option, None}
+use Rattle.std.proofs.lemmas.Option.{none-some}
 use mathlib.Core.Logic.{by_cases}
 use mathlib.Core.List.{List}
 use native.Mathlib.Omega.{arith}

@@ -13,7 +13,7 @@ use Rattle.definitions.specs.Outcome.{accepted, refuse, map_outcome}
 use Rattle.definitions.specs.Name.{Name}
 use Rattle.definitions.specs.Prop.{Prop, True, False, Binary, Atom, Quantified, PropParameter, Uninstantiated, Instantiated, parameter_name, impl, for_all, as_binary, as_quantified, eq_connective, eq_quantifier, nesting, rename_prop, rename_parameter}
 use Rattle.definitions.specs.Code.{decode, encode, CodableParameter, CodableParameters, Codable}
-use Rattle.definitions.specs.Sheet.{text_limit, name_limit, code_limit, proposition_limit, step_limit, proposition_nesting_limit, tree_nesting_limit, rule_byte, premiss_count, step_number, marked, pair_offset, pair_length, text_length, names, code_length, propositions, steps, goal, header_out_of_range, code_start, proposition_pairs, step_records, name_of}
+use Rattle.definitions.specs.Sheet.{name_limit, code_limit, step_limit, proposition_nesting_limit, tree_nesting_limit, rule_byte, premiss_count, step_number, marked, pair_offset, pair_length, names, code_length, propositions, steps, header_out_of_range, code_start, proposition_pairs, step_records, name_of}
 use Rattle.definitions.specs.Sheet as sheet
 use Rattle.definitions.specs.Tree.{ProofTreeConclusion, PropIsTrue, TypeJudgement, identifier_count, ProofTree, over, Premisses, none, ◌and◌, height, heights, rename_identifier, rename_conclusion, rename_step, rename_tree, rename_premisses, rules, last_trees, rule_in, prop_in, identifier_in, conclusion_in, step_in, step_over, trees_before, tree_in, tree_of, root_of}
 use Rattle.definitions.specs.Export.{export, checking, ascription_label, implication_label, left_label, universal_label, datatype_label}

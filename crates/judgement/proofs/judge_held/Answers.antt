@@ -2,7 +2,6 @@
 use mathlib.Core.Path.{refl, sym, ap, ◌∙◌}
 use lib.Seq.{length-take-le}
 use native.Mathlib.Omega.{arith}
-use borrow.Author.Rules.{rules}
 use Rattle.definitions.specs.Sheet.{name_limit}
 use Rattle.sheet.proofs.Admitted.{its_header, beside_header}
 use Rattle.std.specs.Prelude.{Err}

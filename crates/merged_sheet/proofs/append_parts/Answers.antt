@@ -1,7 +1,7 @@
 -- What is appended gives the header.
 use mathlib.Core.Path.{refl}
 use native.Mathlib.Omega.{arith}
-use Rattle.definitions.specs.Sheet.{pair_size, name_limit, text_limit}
+use Rattle.definitions.specs.Sheet.{pair_size, name_limit}
 use Rattle.sheet.proofs.Admitted.{AcceptedSheet, its_header, beside_header}
 use Rattle.equal_conclusions.proofs.Codes.{has_numbers}
 use Rattle.merged_sheet.specs.Parts.{Few}

@@ -1,6 +1,5 @@
 -- The proposition is found first: a type judgement has none, which is 13.
 use mathlib.Core.Path.{refl, sym, ◌∙◌}
-use native.Mathlib.Omega.{arith}
 use Rattle.proof_tree.proofs.Concluding.{opens}
 use Rattle.proof_tree.proofs.Placing.{wrapped, not_wrapped, offset_fits}
 use Rattle.proof_tree.proofs.wrap_into_type_ascription.Goals as goal

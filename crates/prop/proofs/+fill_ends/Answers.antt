@@ -3,7 +3,7 @@
 use Prim.Native.Nat.{ℕ, ◌<◌, ◌-◌}
 use mathlib.Core.Path.{◌≡◌}
 use native.Mathlib.Omega.{arith}
-use lib.ListN.{length, length-set, get_or}
+use lib.ListN.{length, get_or}
 use Rattle.prefix_code.specs.Head.{parts_after}
 use Rattle.prefix_code.proofs.Reading.{Inside, inside, head_starts}
 use Rattle.prop.proofs.Filling.{room_kept, filling_starts, filling_next, filling_steps, filling_ends}

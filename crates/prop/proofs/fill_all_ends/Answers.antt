@@ -1,8 +1,7 @@
 -- The loop's invariant: the propositions before number i have their ends in the table, and filling in those of number i
 -- keeps them.
-use mathlib.Core.Path.{refl, ◌∙◌}
+use mathlib.Core.Path.{◌∙◌}
 use native.Mathlib.Omega.{arith}
-use Rattle.definitions.specs.Sheet.{pair_size}
 use Rattle.definitions.proofs.PrefixCode.{Bytes}
 use Rattle.prop.proofs.Filling.{room_kept}
 use Rattle.prop.proofs.Marks.{present_in, one_more}

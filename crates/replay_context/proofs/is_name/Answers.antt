@@ -1,7 +1,7 @@
 -- Both tests hold of a number where the answer is yes.
-use Rattle.std.proofs.Common.{◌+◌, ◌*◌, rules, arith}
+use Rattle.std.proofs.Common.{rules, arith}
 use borrow.Author.Tests.{tests}
-use Rattle.definitions.specs.Sheet.{pair_size, number_at, pair_offset, pair_length, pair_end}
+use Rattle.definitions.specs.Sheet.{pair_size, pair_end}
 use Rattle.replay_context.proofs.is_name.Goals as goal
 
 pub pair_offset-requires : goal.pair_offset-requires

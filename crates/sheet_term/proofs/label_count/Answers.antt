@@ -1,12 +1,6 @@
 -- The root of the term that is held keeps the label count.
-use mathlib.Core.Path.{ap, ◌∙◌}
+use mathlib.Core.Path.{◌∙◌}
 use borrow.Author.Rules.{rules}
-use Rattle.definitions.specs.Outcome.{map_outcome}
-use Rattle.definitions.specs.Sheet.{names, code_bytes}
-use Rattle.definitions.specs.Answers.{label_count}
-use Rattle.std.specs.Prelude.{Ok}
-use Rattle.prefix_code.specs.PropAt.{prop_at}
-use Rattle.sheet_term.specs.Counted.{counted_of}
 use Rattle.sheet_term.proofs.Answers.{no_count}
 use Rattle.sheet_term.proofs.label_count.Goals as goal
 

@@ -1,7 +1,5 @@
 -- What is no sheet has no term; an accepted sheet's is exported.
-use mathlib.Core.Path.{◌≡◌}
 use borrow.Author.Rules.{rules}
-use Rattle.std.specs.Prelude.{Ok, Err}
 use Rattle.sheet_term.proofs.Held.{not_a_sheet}
 use Rattle.sheet_term.proofs.sheet_term.Goals as goal
 

@@ -1,6 +1,5 @@
 -- A header that passes 1 to 3 says where the names lie; a refusal is located.
 use mathlib.Core.Path.{◌≡◌}
-use native.Mathlib.Omega.{arith}
 use Rattle.std.proofs.Common.{rules}
 use Rattle.std.specs.Prelude.{Err}
 use Rattle.definitions.specs.Outcome.{accepted}

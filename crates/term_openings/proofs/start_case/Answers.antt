@@ -2,7 +2,7 @@
 use native.Mathlib.Omega.{arith}
 use Rattle.term_stack.specs.Standing.{left_at}
 use Rattle.term_stack.proofs.Opened.{opens}
-use Rattle.term_openings.specs.Beginning.{with_text, TextBegins, TextEnds}
+use Rattle.term_openings.specs.Beginning.{with_text, TextEnds}
 use Rattle.term_openings.proofs.FirstWords.{case_not, case_comes, case_opens}
 use Rattle.term_openings.proofs.start_case.Goals as goal
 

@@ -2,7 +2,7 @@
 use native.Mathlib.Omega.{arith}
 use Rattle.term_stack.specs.Standing.{left_at}
 use Rattle.term_stack.proofs.Opened.{opens}
-use Rattle.term_openings.specs.Beginning.{with_names, NamesBegin, NamesEnd}
+use Rattle.term_openings.specs.Beginning.{with_names, NamesEnd}
 use Rattle.term_openings.proofs.Noting.{noting}
 use Rattle.term_openings.proofs.FirstWords.{first_not, second_not, let_not, let_comes, let_long, let_opens}
 use Rattle.term_openings.proofs.start_let.Goals as goal

@@ -1,6 +1,5 @@
 -- The term's labels are noted, and then the goal.
 use mathlib.Core.Path.{◌≡◌, ap, ◌∙◌}
-use native.Mathlib.Omega.{arith}
 use borrow.Author.Rules.{rules}
 use Rattle.definitions.specs.Sheet.{proposition_pairs}
 use Rattle.sheet.specs.Header.{header_of}

@@ -1,5 +1,4 @@
 -- The lines of both lists, and three newlines.
-use native.Mathlib.Omega.{arith}
 use Rattle.text.proofs.Heading.{printable, heading_measured}
 use Rattle.text.proofs.heading_length.Goals as goal
 

@@ -3,7 +3,6 @@ use Prim.Native.Nat.{◌<◌}
 use mathlib.Core.Path.{refl, sym, ap, ◌∙◌}
 use native.Mathlib.Omega.{arith}
 use borrow.Author.Rules.{rules}
-use Rattle.definitions.specs.Code.{parameter_limit}
 use Rattle.definitions.specs.NameIndex.{slot_count, start_slot}
 use Rattle.declarations.proofs.Noting.{has_flag, noted_again, room_for_one, held_known, noted_known, held_new, noted_new}
 use Rattle.declarations.proofs.DeclarationsUseSink.put_use.Goals as goal

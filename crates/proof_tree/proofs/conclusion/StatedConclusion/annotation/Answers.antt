@@ -1,6 +1,4 @@
 -- The label by the ending.
-use Rattle.proof_tree.specs.Table.{ending_of}
-use Rattle.proof_tree.specs.Labelling.{parameter_label_of}
 use Rattle.proof_tree.proofs.Annotations.{unlabelled}
 use Rattle.proof_tree.proofs.conclusion.StatedConclusion.annotation.Goals as goal
 
