@@ -20,8 +20,8 @@ use prefix_code::PARAMETER_LIMIT;
 use prop_lists::UseSink;
 use vocabulary::Memory;
 
-// The flags of a name: one for each count of parameters from 0 on.
-const NAME_FLAGS: usize = PARAMETER_LIMIT as usize + 1;
+// The counts of parameters, from 0 on. A name has a flag for each.
+pub const COUNTS: usize = PARAMETER_LIMIT as usize + 1;
 
 // A declaration: the number of a name, and a count, in 16 bits each, since the stack holds as many as there are flags.
 #[derive(Clone, Copy, Default)]
@@ -125,7 +125,7 @@ impl<'a, const N: usize> UseSink for Declarations<'a, N> {
     #[tactic(auto, unfolding(definitions::specs::NameIndex::slot_count, definitions::specs::Code::parameter_limit), using(crate::proofs::Noting::slot_below))]
     fn put_use(&mut self, name: u16, count: usize) {
         let number = usize::from(name);
-        let flag = NAME_FLAGS * number + count;
+        let flag = COUNTS * number + count;
         if self.table.seen[flag] {
             return;
         }

@@ -57,7 +57,8 @@ impl Reason {
     }
 }
 
-// A refusal: the number of its reason, which C and the definitions cite, and its place.
+// A refusal: the number of its reason, and its place. Documents 01 and 02 and C know a reason by its number, and the definitions answer with
+// this very type.
 #[derive(Clone, Copy, PartialEq, Eq)]
 pub struct Refusal {
     pub number: u8,

@@ -8,24 +8,14 @@ use skriduhol::BOARD_ROOM;
 use std::rt::Files;
 use std::{env, io};
 
-// The number of a decimal digit; another byte counts as 0.
-fn digit(b: u8) -> usize
-    ensures { result ≤ 9 }
-{
-    if b.is_ascii_digit() {
-        usize::from(b - b'0')
-    } else {
-        0
-    }
-}
-
-// The room that decimal digits say, at most the board's. A number that `parse` refuses has a room too.
+// The room that decimal digits say, at most the board's; another byte counts as 0. A number that `parse` refuses has a room too.
 fn room_of(digits: &[u8]) -> usize
     ensures { result ≤ 65536 }
 {
     let mut room = 0;
     for &b in digits {
-        room = (10 * room + digit(b)).min(BOARD_ROOM);
+        let digit = char::from(b).to_digit(10).unwrap_or(0) as usize;
+        room = (10 * room + digit).min(BOARD_ROOM);
     }
     room
 }
@@ -37,10 +27,7 @@ fn write_answer(rt: &impl Print, s: &[u8], room: usize) -> io::Result<()>
     let mut memory = [b'.'; BOARD_ROOM];
     match skriduhol::plain_text(s, &mut memory[..room]) {
         Ok(length) => println!(rt; "{length} bytes")?,
-        Err(located) => println!(rt;
-            "refused {} at {} column {}",
-            located.refusal.number, located.refusal.place, located.column
-        )?,
+        Err(located) => println!(rt; "{} column {}", located.refusal, located.column)?,
     }
     rt.write_all(&memory[..room])?;
     println!(rt)

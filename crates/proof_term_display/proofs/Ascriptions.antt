@@ -3,9 +3,14 @@ use Prim.Native.Nat.{ℕ, ◌+◌, ◌*◌, ◌≤◌, ◌<◌}
 use mathlib.Core.Path.{◌≡◌, refl, sym, ap, ◌∙◌}
 use mathlib.Core.Bool.{Bool, true, false}
 use mathlib.Core.List.{List, ◌++◌, append_assoc, append-nil}
+use mathlib.Core.Logic.{by_cases}
 use native.Mathlib.Omega.{arith}
+use native.Mathlib.Decide.{dec_lt}
 use lib.ListN.{length}
-use Rattle.std.specs.Prelude.{Option, IfSome, OnSome, unwrap_or}
+use lib.Dec.{ltb}
+use borrow.Author.Tests.{lt-ltb, le-ltb}
+use Rattle.std.specs.Prelude.{Option, IfSome, is_some, unwrap_or}
+use Rattle.std.specs.Bool.{then_some}
 use Rattle.definitions.specs.declared.Style.{Style}
 use Rattle.definitions.specs.Term.{rename_term}
 use Rattle.definitions.specs.Display.{wrap, wraps, display_term}
@@ -28,6 +33,14 @@ unfolding wrap bracket
 wrapped true t = refl
 wrapped false t = sym (append-nil t)
 
+-- the body of an ascription, where it is an earlier record
+pub earlier_body : {records : List ℕ} {n body : ℕ} → field_at records n 0 ≡ 11 → body ≡ field_at records n 1
+    → AscribedBody records n (then_some (ltb body n) body)
+earlier_body {records} {n} kind is =
+    rw is (by_cases (dec_lt (field_at records n 1) n)
+    (λ l. rw (lt-ltb (field_at records n 1) n l) (body_of kind l))
+    (λ l. let past : n ≤ field_at records n 1 = omega arith in rw (le-ltb (field_at records n 1) n past) no_ascription))
+
 -- no record that is printed for another comes after it
 pub not_after : {records : List ℕ} {n : ℕ} {ascribed : Option ℕ} → AscribedBody records n ascribed → unwrap_or ascribed n ≤ n
 not_after no_ascription = omega arith
@@ -45,7 +58,7 @@ module _ (s : Style) (bytes : List ℕ) (v : Vocabulary) (records : List ℕ) wh
   inner ascribed = body_bracketed (name_in bytes v) (prop_in bytes v) records ascribed s
 
   pub ascribed_text : {n : ℕ} {ascribed : Option ℕ} → AscribedBody records n ascribed
-      → term_text s bytes v records n ≡ wrap (inner ascribed) (term_text s bytes v records (unwrap_or ascribed n)) ++ after_body bytes v records n ascribed
+      → term_text s bytes v records n ≡ wrap (inner ascribed) (term_text s bytes v records (unwrap_or ascribed n)) ++ after_body bytes v records n (is_some ascribed)
   unfolding body_bracketed after_body is_bracketed wrap wraps display_term rename_term
   ascribed_text no_ascription = sym (append-nil _)
   ascribed_text {n = n} (body_of kind h) =
@@ -64,9 +77,9 @@ module _ {bytes : List ℕ} {v : Vocabulary} {ends records : List ℕ} {n : ℕ}
   body_printable (body_of kind h) p = printable_part 4 (field_at records n 1) refl h p (ascription_ready kind p).0
 
   pub label_printable : {ascribed : Option ℕ} → AscribedBody records n ascribed → PrintableTerm records n bytes v ends
-      → OnSome ascribed (LabelReady bytes v ends records n)
-  label_printable no_ascription p = tt
-  label_printable (body_of kind h) p = (ascription_ready kind p).1
+      → is_some ascribed ≡ true → LabelReady bytes v ends records n
+  label_printable no_ascription p e = absurd (cc e)
+  label_printable (body_of kind h) p e = (ascription_ready kind p).1
 
 -- Part k of record n, an earlier record:
 module _ (s : Style) (bytes : List ℕ) (v : Vocabulary) (records : List ℕ) (n k number : ℕ) (is : number ≡ field_at records n (part_field k)) (h : number < n) where
@@ -84,7 +97,7 @@ module _ (s : Style) (bytes : List ℕ) (v : Vocabulary) (records : List ℕ) (n
     printed = text_of (unwrap_or ascribed number)
 
     abbrev after : List ℕ
-    after = after_body bytes v records number ascribed
+    after = after_body bytes v records number (is_some ascribed)
 
     pieces : bracket outer 40 ++ (bracket within 40 ++ (printed ++ (bracket within 41 ++ (after ++ bracket outer 41)))) ≡ wrap outer (text_of number)
     pieces =

@@ -20,10 +20,10 @@ pub data AscribedBody (records : List ℕ) (n : ℕ) : Option ℕ → Type 0 whe
   no_ascription : AscribedBody records n None
   body_of : field_at records n 0 ≡ 11 → field_at records n 1 < n → AscribedBody records n (Some (field_at records n 1))
 
--- what stands after the body, if there is one
-unfoldable pub after_body : List ℕ → Vocabulary → List ℕ → ℕ → Option ℕ → List ℕ
-after_body bytes v records n None = []
-after_body bytes v records n (Some body) = utf8 ": " ++ label_text bytes v records n
+-- what stands after the body of an ascription, and after no other record
+unfoldable pub after_body : List ℕ → Vocabulary → List ℕ → ℕ → Bool → List ℕ
+after_body bytes v records n false = []
+after_body bytes v records n true = utf8 ": " ++ label_text bytes v records n
 
 -- whether the body is bracketed, if there is one
 unfoldable pub body_bracketed : (ℕ → Name) → (ℕ → Prop ℕ) → List ℕ → Option ℕ → Style → Bool

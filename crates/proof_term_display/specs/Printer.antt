@@ -1,5 +1,5 @@
 -- What is said of a label, and of the term of a record, by what the printing goes by.
-use Rattle.std.specs.Prelude.{ℕ, List, Option}
+use Rattle.std.specs.Prelude.{ℕ, Bool, List, Option}
 use Rattle.definitions.specs.declared.Style.{Style}
 use Rattle.prop.specs.declared.propositions.Propositions.{Propositions}
 use Rattle.proof_term.specs.declared.nodes.Label.{Label}
@@ -38,12 +38,12 @@ module _ (p : Printer) (n : ℕ) where
   abbrev pub HasLabelOf : Type 0
   HasLabelOf = LabelReady p.propositions.memory.bytes.now p.propositions.memory.vocabulary p.propositions.ends.now p.records.now n
 
-  -- their texts, and what stands after the body that the record has
+  -- their texts, and what stands after the body of the record, if it is an ascription
   abbrev pub text_of : List ℕ
   text_of = shown_term p.propositions p.style p.records.now n
 
   abbrev pub text_of_item : Item → List ℕ
   text_of_item = record_item p.propositions.memory.bytes.now p.propositions.memory.vocabulary p.records.now n p.style
 
-  abbrev pub text_after : Option ℕ → List ℕ
+  abbrev pub text_after : Bool → List ℕ
   text_after = after_body p.propositions.memory.bytes.now p.propositions.memory.vocabulary p.records.now n

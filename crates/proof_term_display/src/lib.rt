@@ -1,7 +1,7 @@
 // The text of a term from its records (`Display` of source document 001), plain and strict.
 #![tactic(auto)]
 
-ghost use Rattle.std.specs.Prelude.{◌≡◌, ◌&&◌, false, ℕ, ◌+◌, ◌*◌, ◌≤◌, [], length, get_or, leb, MatchOption, IfSome, OnSome};
+ghost use Rattle.std.specs.Prelude.{◌≡◌, ◌&&◌, true, false, ℕ, ◌+◌, ◌*◌, ◌≤◌, [], length, get_or, leb, MatchOption, IfSome};
 ghost use Rattle.definitions.specs.Name.{Name};
 ghost use Rattle.definitions.specs.Prop.{Prop};
 ghost use Rattle.definitions.specs.Term.{ProofTerm, rename_term};
@@ -12,7 +12,7 @@ ghost use Rattle.proof_term.specs.Views.{kind_number};
 ghost use Rattle.proof_term_display.specs.Ascriptions.{bracket, AscribedBody, body_bracketed};
 ghost use Rattle.proof_term_display.specs.Brackets.{position_of, is_bracketed, bracket_row, form_at};
 ghost use Rattle.proof_term_display.specs.Format.{part_field, part_number, part_position, item_of, part, items, formats};
-ghost use Rattle.proof_term_display.specs.Printer.{HasLabel, shown_in, shown_of_parameter, CanShowTerm, shown_term, HasTerm, HasItem, HasLabelOf, text_of, text_of_item, text_after};
+ghost use Rattle.proof_term_display.specs.Printer.{HasLabel, shown_in, shown_of_parameter, HasTerm, HasItem, HasLabelOf, text_of, text_of_item, text_after};
 
 use definitions::Style;
 use output::Sink;
@@ -162,10 +162,10 @@ pub fn format_of(kind: Kind) -> &'static [u8]
 
 // What the printing of a term goes by: its records, the memory of its names and propositions, and the style.
 #[derive(Clone, Copy)]
-struct Printer<'a> {
-    records: &'a [u16],
-    propositions: Propositions<'a>,
-    style: Style,
+pub struct Printer<'a> {
+    pub records: &'a [u16],
+    pub propositions: Propositions<'a>,
+    pub style: Style,
 }
 
 // A label: a proposition or a datatype.
@@ -214,10 +214,7 @@ fn ascribed_body(records: &[u16], n: usize) -> Option<usize>
         return None;
     };
     let body = field(records, n, 1);
-    if n <= body {
-        return None;
-    }
-    Some(body)
+    (body < n).then_some(body)
 }
 
 // Whether the body of an ascription is bracketed.
@@ -233,90 +230,72 @@ fn is_body_bracketed(records: &[u16], ascribed: Option<usize>, style: Style) -> 
     is_bracketed(records, body, PartPosition::AscribedBy, style)
 }
 
-// What stands after the body of record `n`, if that is an ascription: a colon and its label.
-#[tactic(auto, unfolding(crate::specs::Ascriptions::after_body))]
-fn put_ascription<S: Sink<u8>>(sink: &mut S, p: &Printer, n: usize, ascribed: Option<usize>)
-    requires has_term { HasTerm p.now n }
-    requires has_label { OnSome ascribed (HasLabelOf p.now n) }
-    ensures { S.puts sink.old (text_after p.now n ascribed) sink.new }
-{
-    let Some(_) = ascribed else {
-        return;
-    };
-    sink.put_all(b": ");
-    put_label(sink, label_at(p.records, n), &p.propositions);
-}
-
-// A part of record `n`, in brackets where its position asks for them.
-#[cycle(put_node)]
-fn put_part<S: Sink<u8>>(sink: &mut S, p: &Printer, n: usize, which: TermPart)
-    requires has_term { HasTerm p.now n }
-    requires has_item { HasItem p.now n (part (part_number which)) }
-    ensures { S.puts sink.old (text_of_item p.now n (part (part_number which))) sink.new }
-{
-    let number = field(p.records, n, which.field());
-    if n <= number {
-        sink.put_all(b"()");
-        return;
-    }
-    let bracketed = is_bracketed(p.records, number, which.position(), p.style);
-    let ascribed = ascribed_body(p.records, number);
-    let inner = is_body_bracketed(p.records, ascribed, p.style);
-    put_bracket(sink, b'(', bracketed);
-    put_bracket(sink, b'(', inner);
-    put_node(sink, p, ascribed.unwrap_or(number));
-    put_bracket(sink, b')', inner);
-    put_ascription(sink, p, number, ascribed);
-    put_bracket(sink, b')', bracketed);
-}
-
-// What a byte of a format stands for in record `n`.
-#[cycle(put_node)]
-fn put_item<S: Sink<u8>>(sink: &mut S, p: &Printer, n: usize, b: u8)
-    requires has_term { HasTerm p.now n }
-    requires has_item { HasItem p.now n (item_of b) }
-    ensures { S.puts sink.old (text_of_item p.now n (item_of b)) sink.new }
-{
-    match b {
-        b'1'..=b'5' => {
-            let number = field(p.records, n, (b - b'0') as usize);
-            sink.put_all(p.propositions.memory.name(number));
+impl Printer<'_> {
+    // What stands after the body of record `n`, if that is an ascription of an earlier record: a colon and its label.
+    #[tactic(auto, unfolding(crate::specs::Ascriptions::after_body))]
+    fn put_ascription<S: Sink<u8>>(&self, sink: &mut S, n: usize, is_ascription: bool)
+        requires has_term { HasTerm self.now n }
+        requires has_label { is_ascription ≡ true → HasLabelOf self.now n }
+        ensures { S.puts sink.old (text_after self.now n is_ascription) sink.new }
+    {
+        if is_ascription {
+            sink.put_all(b": ");
+            put_label(sink, label_at(self.records, n), &self.propositions);
         }
-        b'L' => put_parameter_label(sink, parameter_at(p.records, n), &p.propositions),
-        b'M' => put_label(sink, label_at(p.records, n), &p.propositions),
-        _ => match TermPart::of_letter(b) {
-            Some(which) => put_part(sink, p, n, which),
-            None => sink.put(b),
-        },
     }
-}
 
-// The term of record `n`, item by item of its kind's format.
-#[cycle(put_node)]
-fn put_node<S: Sink<u8>>(sink: &mut S, p: &Printer, n: usize)
-    requires { HasTerm p.now n }
-    ensures { S.puts sink.old (text_of p.now n) sink.new }
-{
-    for &b in format_of(kind_at(p.records, n)) {
-        put_item(sink, p, n, b);
+    // A part of record `n`, in brackets where its position asks for them.
+    #[cycle(put)]
+    fn put_part<S: Sink<u8>>(&self, sink: &mut S, n: usize, which: TermPart)
+        requires has_term { HasTerm self.now n }
+        requires has_item { HasItem self.now n (part (part_number which)) }
+        ensures { S.puts sink.old (text_of_item self.now n (part (part_number which))) sink.new }
+    {
+        let number = field(self.records, n, which.field());
+        if n <= number {
+            sink.put_all(b"()");
+            return;
+        }
+        let bracketed = is_bracketed(self.records, number, which.position(), self.style);
+        let ascribed = ascribed_body(self.records, number);
+        let inner = is_body_bracketed(self.records, ascribed, self.style);
+        put_bracket(sink, b'(', bracketed);
+        put_bracket(sink, b'(', inner);
+        self.put(sink, ascribed.unwrap_or(number));
+        put_bracket(sink, b')', inner);
+        self.put_ascription(sink, number, ascribed.is_some());
+        put_bracket(sink, b')', bracketed);
     }
-}
 
-// The term of record `n`.
-pub fn put_term<S: Sink<u8>>(
-    sink: &mut S,
-    records: &[u16],
-    n: usize,
-    propositions: Propositions,
-    style: Style,
-)
-    requires { CanShowTerm propositions records.now n }
-    ensures { S.puts sink.old (shown_term propositions.entry style records.now n) sink.new }
-{
-    let p = Printer {
-        records,
-        propositions,
-        style,
-    };
-    put_node(sink, &p, n);
+    // What a byte of a format stands for in record `n`.
+    #[cycle(put)]
+    fn put_item<S: Sink<u8>>(&self, sink: &mut S, n: usize, b: u8)
+        requires has_term { HasTerm self.now n }
+        requires has_item { HasItem self.now n (item_of b) }
+        ensures { S.puts sink.old (text_of_item self.now n (item_of b)) sink.new }
+    {
+        match b {
+            b'1'..=b'5' => {
+                let number = field(self.records, n, (b - b'0') as usize);
+                sink.put_all(self.propositions.memory.name(number));
+            }
+            b'L' => put_parameter_label(sink, parameter_at(self.records, n), &self.propositions),
+            b'M' => put_label(sink, label_at(self.records, n), &self.propositions),
+            _ => match TermPart::of_letter(b) {
+                Some(which) => self.put_part(sink, n, which),
+                None => sink.put(b),
+            },
+        }
+    }
+
+    // The term of record `n`, item by item of its kind's format.
+    #[cycle(put)]
+    pub fn put<S: Sink<u8>>(&self, sink: &mut S, n: usize)
+        requires { HasTerm self.now n }
+        ensures { S.puts sink.old (text_of self.now n) sink.new }
+    {
+        for &b in format_of(kind_at(self.records, n)) {
+            self.put_item(sink, n, b);
+        }
+    }
 }

@@ -13,15 +13,15 @@ use Rattle.definitions.specs.declared.Style.{Style}
 use Rattle.vocabulary.specs.declared.Vocabulary.{Vocabulary}
 use Rattle.proof_term_length.specs.Measure.{term_length, MeasuredBelow, Known}
 
--- an entry of a table of zeros
-zero_at : (n i : ℕ) → ◌≡◌ {A = ℕ} (get_or (replicate n 0) i 0) 0
-zero_at n i = by_cases (dec_lt i n)
-    (λ h. get_or-replicate n i 0 0 h)
-    (λ h. get_or-eq_default (replicate n 0) 0 {n = i} (omega (arith, length-replicate {A = ℕ} n 0)))
+-- an entry of a table that is empty
+none_at : (n i : ℕ) → ◌≡◌ {A = Option ℕ} (get_or (replicate n None) i None) None
+none_at n i = by_cases (dec_lt i n)
+    (λ h. get_or-replicate n i None None h)
+    (λ h. get_or-eq_default (replicate n None) None {n = i} (omega (arith, length-replicate {A = Option ℕ} n None)))
 
 module _ (bytes : List ℕ) (v : Vocabulary) where
-  pub none_known : (n : ℕ) → Known bytes v (replicate n 0)
-  none_known n i h = absurd (h (zero_at n i))
+  pub none_known : (n : ℕ) → Known bytes v (replicate n None)
+  none_known n i k is = absurd (none-some k (sym (none_at n i) ∙ is))
 
   module _ (records : List ℕ) (s : Style) (cap : ℕ) where
     -- one more record is measured

@@ -1,5 +1,5 @@
 -- The length of a term's text by the records, what it takes to count it, and what is known on the way.
-use Rattle.std.specs.Prelude.{ℕ, ◌+◌, ◌*◌, ◌≤◌, ◌<◌, min, ◌≡◌, List, length, get_or}
+use Rattle.std.specs.Prelude.{ℕ, ◌+◌, ◌*◌, ◌≤◌, ◌<◌, min, ◌≡◌, List, length, get_or, Option, None, Some}
 use Rattle.definitions.specs.declared.Style.{Style}
 use Rattle.proof_term.specs.Records.{record_size, field_at}
 use Rattle.proof_term.specs.Labels.{LabelsFit}
@@ -35,9 +35,9 @@ module _ (bytes : List ℕ) (v : Vocabulary) where
     pub within : Within bytes v
     pub named : (n : ℕ) → n < v.name_count → Names bytes v n
 
-  -- an entry of the table that is not 0 is the length of the text of the proposition at its place
-  abbrev pub Known : List ℕ → Type 0
-  Known known = (i : ℕ) → (get_or known i 0 ≡ 0 → ⊥) → get_or known i 0 ≡ length (prop_text bytes v i)
+  -- a length in the table is that of the text of the proposition at its place
+  abbrev pub Known : List (Option ℕ) → Type 0
+  Known known = (i k : ℕ) → get_or known i None ≡ Some k → k ≡ length (prop_text bytes v i)
 
 -- where an item stands for a label, record n has one, and that fits
 module _ (bytes : List ℕ) (v : Vocabulary) (ends records : List ℕ) (n : ℕ) where

@@ -39,8 +39,8 @@ pub fn fill_ends(code: &[u8], at: usize, names: usize, ends: &mut [u16]) -> usiz
     i
 }
 
-// The same for the propositions of a sheet. Pairs and code stand loose and are no `Marked`: of its fields a proof does not know that they
-// hold bytes, as it does of a parameter, and a clause that says so would ask more of callers.
+// The same for the propositions of a sheet, whose header says how many there are. Pairs and code stand loose and are no `Marked`: of its
+// fields a proof does not know that they hold bytes, as it does of a parameter, and a clause that says so would ask more of callers.
 #[tactic(auto, unfolding(definitions::specs::Sheet::pair_size))]
 pub fn fill_all_ends(pairs: &[u8], code: &[u8], count: usize, names: usize, ends: &mut [u16])
     requires { AllFillable names pairs.now code.now count ends.old }
@@ -53,7 +53,8 @@ pub fn fill_all_ends(pairs: &[u8], code: &[u8], count: usize, names: usize, ends
 }
 
 // How strongly the proposition at `at` binds, whatever its names are. An implication of ⊥ is printed as a negation, and binds as strongly
-// as an atom. The head is all that is asked for here; a Shape would also read the numbers behind it.
+// as an atom. The head is all that is asked for here; a Shape would also read the numbers behind it. Tried: with the test of the right side
+// as a guard of one match, a proof does not know in the arm behind it that it failed.
 pub fn precedence(code: &[u8], ends: &[u16], at: usize) -> usize
     requires { Legible code.now ends.now at }
     ensures { (names : ℕ) (f : ℕ → Name) → Known names code.now ends.now at →
@@ -76,6 +77,7 @@ pub fn precedence(code: &[u8], ends: &[u16], at: usize) -> usize
 
 impl Propositions<'_> {
     // How strongly the proposition at `at` binds.
+    #[tactic(auto, unfolding(vocabulary::specs::Vocabulary::prop_in))]
     fn strength(&self, at: usize) -> usize
         requires { HasProposition self.now at }
         ensures { result ≡ Display.precedence (prop_named self.now at) }

@@ -10,9 +10,6 @@ use output::Counter;
 use prop::Propositions;
 use vocabulary::Memory;
 
-// A bracket on each side.
-pub const BRACKETS: usize = 2;
-
 // How many bytes a name has.
 pub fn name_length(memory: &Memory, i: usize) -> usize
     requires { HasName memory.now i }

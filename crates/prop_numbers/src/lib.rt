@@ -27,7 +27,8 @@ const CONSTANTS: usize = 2;
 pub const STANDING: usize = CODE_LIMIT + LABEL_CODE_LIMIT + CONSTANTS;
 
 // Each node of a term may make one proposition, in the slot of its number: its connective, none where nothing is made, and the numbers
-// of its sides. The connective alone is an Option, since an Option of the whole takes 16 bytes for these 12.
+// of its sides. The connective alone is an Option: `left` and `right` may be asked of every slot, and of one that made nothing each would
+// have to say again what an Option of the whole leaves out.
 #[derive(Clone, Copy, Default)]
 pub struct Made {
     connective: Option<Connective>,

@@ -1,2 +1,3 @@
 pub mod Signs
 pub mod Named
+pub mod Rows

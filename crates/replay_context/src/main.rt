@@ -99,6 +99,7 @@ fn found_entry(context: &Context, found: Option<usize>) -> Option<Entry> {
 }
 
 // Whether a number has a pair that ends within the text. Both slices are passed, since what bytes are at most is known of a parameter.
+#[tactic(auto, unfolding(definitions::specs::Sheet::pair_size, definitions::specs::Sheet::pair_offset, definitions::specs::Sheet::pair_length, definitions::specs::Sheet::number_at))]
 fn is_name(pairs: &[u8], text: &[u8], name: usize) -> bool
     ensures { result ≡ Bool.true → NameWithin pairs.now text.now name }
 {

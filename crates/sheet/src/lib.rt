@@ -101,6 +101,7 @@ impl HeadedSheet<'_> {
     }
 
     // Refusals 10 and 11: the steps' trees.
+    #[tactic(auto, unfolding(definitions::specs::Sheet::step_limit))]
     fn check_trees(&self, sizes: &mut [u16; Sheet::STEP_LIMIT]) -> Result<(), Refusal>
         ensures value { outcome_of result ≡ tree_checks self.now.bytes.now }
         ensures sized { Sized self.now.bytes.now (steps_finding_trees self.now.bytes.now) sizes.old sizes.new }

@@ -10,7 +10,7 @@ use Rattle.definitions.specs.Term.{ProofTerm}
 use Rattle.definitions.specs.Answers.{is_in_room, sheet_term}
 use Rattle.std.specs.Prelude.{Result, Ok, Err}
 use Rattle.output.specs.Wrote.{Wrote}
-use Rattle.output.specs.Written.{Fills}
+use Rattle.output.specs.Written.{written_of, Fills}
 use Rattle.output.proofs.Filling as filling
 use Rattle.vocabulary.specs.declared.Vocabulary.{Vocabulary}
 use Rattle.proof_term_lists.specs.Labels.{term_in}
@@ -40,6 +40,12 @@ module _ {s : List ℕ} (a : Accepted s) {words : Vocabulary} (same : words ≡ 
     {terms : List ℕ} {n : ℕ} (t : HeldTerm s terms n) where
   term_is : sheet_term s ≡ accepted (term_in s words terms n)
   term_is = rw (props_are (has_header a.sheet) same) t.is_term
+
+  -- what is told of the list's length is its length
+  pub counted : (list : TermList) {r : ℕ} → Ok r ≡ written_of (map_outcome (list_numbers list) (sheet_term s))
+      → r ≡ length (list_numbers list (term_in s words terms n))
+  unfolding map_outcome written_of
+  counted list told = let same : Ok _ ≡ Ok (length (list_numbers list (term_in s words terms n))) = rw term_is at told in cc same
 
   -- the list is counted, and then written where it fits
   module _ (list : TermList) {before : List ℕ} where

@@ -31,10 +31,10 @@ ghost use Rattle.skriduhol.specs.Board.{Prints};
 ghost use Rattle.skriduhol.specs.Searched.{searched_of, plain_answer};
 
 use definitions::{Located, Reason, Refusal, Style, TermList, Version, Whose};
-use list_length::list_length;
+use list_length::{held_list_length, list_length};
 use located::{locate, put_refusal};
 use name_index::{Index, SLOT_COUNT};
-use output::{Counter, Writer};
+use output::Writer;
 use proof_term_lists::put_term_list;
 use restating::Given;
 use sheet::{AdmittedSheet, check_header};
@@ -44,6 +44,7 @@ use vocabulary::Memory;
 
 // The version of a number, or 21, which names no step of any sheet. A `TryFrom` would be this match with this contract, and stand in
 // `definitions`, where the type is; a number is turned into a version in this crate alone.
+#[tactic(auto, unfolding(crate::specs::Asked::asked_of, definitions::specs::Answers::version_of))]
 fn asked_version(number: usize) -> Result<Version, Located>
     ensures { (s : List ℕ) → result ≡ asked_of s (version_of number) }
 {
@@ -109,17 +110,19 @@ fn label_list(s: &[u8], which: TermList, out: &mut [u16]) -> Result<usize, Refus
 {
     let mut terms = [0u16; TERM_NUMBERS];
     let held = SheetTerm::new(s, &mut terms)?;
-    let memory = held.memory();
-    let records = held.terms();
-    let n = held.record();
-    let mut length = Counter { count: 0 };
-    put_term_list(&mut length, which, &memory, records, n);
-    if out.len() < length.count {
+    let length = held_list_length(&held, which);
+    if out.len() < length {
         return Err(Reason::Room.at(0));
     }
     let mut writer = Writer { out, to: 0 };
-    put_term_list(&mut writer, which, &memory, records, n);
-    Ok(length.count)
+    put_term_list(
+        &mut writer,
+        which,
+        &held.memory(),
+        held.terms(),
+        held.record(),
+    );
+    Ok(length)
 }
 
 // The atom list, in every version the same: the number of a name and a parameter count for each atom.
@@ -211,6 +214,7 @@ pub fn restate_length(s: &[u8], given: Given) -> Result<usize, Located>
 
 // A refusal of a graft, with the column of the step that it names in the sheet whose it is. The match picks the sheet: only of the
 // one whose the refusal is, if any, is the header known to be right.
+#[tactic(auto, unfolding(definitions::specs::Graft::located_by))]
 fn locate_by(host: &[u8], donor: &[u8], refused: (Whose, Refusal)) -> (Whose, Located)
     requires { (refused.0 ≡ Host → AfterHeader host.now refused.1) × (refused.0 ≡ Donor → AfterHeader donor.now refused.1) }
     ensures { result ≡ (refused.0, located_by host.now donor.now refused.0 refused.1) }

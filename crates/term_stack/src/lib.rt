@@ -56,7 +56,8 @@ pub enum Purpose {
 
 // What waits for a term: the parts of a case, the first term after a bracket, the second part of a pair, and the parts of a function and
 // a let, with the terms, the labels and the numbers of the names that were read before. The head of a case comes first, whose bytes are
-// zeros: so a memory of it alone is zeroed where it lies, and no array is copied into it.
+// zeros: so a memory of it alone is zeroed where it lies, and no array is copied into it. A part of a case and the name behind it are no
+// one value: the name is that of the branch that is read next.
 #[derive(Clone, Copy)]
 pub enum Entry {
     CaseHead,

@@ -23,9 +23,11 @@ use Rattle.prop.specs.Ends.{Known, AllFillable}
 use Rattle.proof_term.specs.Records.{term_at}
 use Rattle.proof_term.specs.Readable.{NamesBelow}
 use Rattle.proof_term_display.specs.Printable.{PrintableTerm, term_text}
+use Rattle.proof_term_display.specs.declared.Printer.{Printer}
 use Rattle.proof_term_length.specs.Measure.{Measurable}
 use Rattle.sheet_term.specs.Held.{HeldTerm}
-use Rattle.text.specs.Declaring.{sheet_vocabulary, term_of, EndsKnown}
+use Rattle.text.proofs.Longest.{term_short}
+use Rattle.text.specs.Declaring.{sheet_vocabulary, term_of, EndsKnown, Prints}
 use Rattle.text.proofs.Labels.{label_known, names_are, props_are}
 
 -- Of a term and of code, by equal counts, names and propositions:
@@ -103,3 +105,13 @@ module _ {s : List ℕ} (a : Accepted s) where
     term_shown style terms n =
         ap (λ w. term_text style s w terms n) is
         ∙ shown_by style terms n (names_are (has_header a.sheet) refl) (props_are (has_header a.sheet) refl)
+
+  -- what prints the term, by its parts
+  pub prints : {p : Printer} → p.propositions.memory.bytes.now ≡ s → p.propositions.memory.vocabulary ≡ sheet_vocabulary s
+      → {terms : List ℕ} {n : ℕ} → p.records.now ≡ terms → HeldTerm s terms n → EndsKnown s p.propositions.ends.now → Prints s terms n p.style p
+  prints {p} bytes same {terms} {n} records term known = record {
+    printable = rw (bytes, records) (printable same term known);
+    measurable = rw (bytes, records) (measurable same term known);
+    shown = rw (bytes, records) (term_shown same p.style terms n);
+    short = term_short a term known p.style;
+  }

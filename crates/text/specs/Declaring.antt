@@ -1,5 +1,6 @@
 -- The text of a sheet's term in two halves: the declarations, which stand in lent memory before they are written, and the term.
 use Rattle.std.specs.Prelude.{ℕ, ◌<◌, ◌≡◌, List, ◌++◌, map, length}
+use Rattle.definitions.specs.declared.Style.{Style}
 use Rattle.definitions.specs.declared.Version.{Version}
 use Rattle.definitions.specs.declared.TermList.{TermList}
 use Rattle.definitions.specs.declared.TermList.TheVariants.{Atoms, Datatypes}
@@ -9,6 +10,7 @@ use Rattle.definitions.specs.Sheet.{names, propositions, proposition_pairs, code
 use Rattle.definitions.specs.Prop.{Prop, AtomUse, get_atoms, get_datatypes}
 use Rattle.definitions.specs.Term.{ProofTerm, atom_list, datatype_list, rename_term}
 use Rattle.definitions.specs.Utf8.{utf8}
+use Rattle.definitions.specs.Display.{display_term}
 use Rattle.definitions.specs.Text.{firsts, eq_atom_use, compare_atom_use, arranged, first_list, second_list, heading}
 use Rattle.definitions.specs.Answers.{named_term, goal_prop}
 use Rattle.order_laws.proofs.Datatypes.{as_use}
@@ -17,6 +19,9 @@ use Rattle.vocabulary.specs.declared.Vocabulary.{Vocabulary}
 use Rattle.vocabulary.specs.Vocabulary.{name_in}
 use Rattle.prop.specs.Ends.{Known}
 use Rattle.proof_term.specs.Records.{term_at}
+use Rattle.proof_term_display.specs.declared.Printer.{Printer}
+use Rattle.proof_term_display.specs.Printer.{HasTerm, text_of}
+use Rattle.proof_term_length.specs.OfMeasure.{TermMeasurable}
 use Rattle.declarations.specs.declared.Declaration.{Declaration}
 use Rattle.declarations.specs.Memory.{declared_uses, Declared}
 use Rattle.declarations.specs.Lines.{declaration_lines}
@@ -60,6 +65,13 @@ module _ (s : List ℕ) where
   pub record HeadingLength (v : Version) (r : ℕ) : Type 0 where
     pub is : (t : ProofTerm Name) → named_term s ≡ accepted t → r ≡ length (heading v t (goal_prop s))
     pub small : r < 17179869184
+
+-- The term that record n of a sheet's terms holds can be printed and measured; its text is that of the sheet's term, and fits 42 bits
+pub record Prints (s terms : List ℕ) (n : ℕ) (style : Style) (p : Printer) : Type 0 where
+  pub printable : HasTerm p n
+  pub measurable : TermMeasurable p n
+  pub shown : text_of p n ≡ display_term style (term_of s terms n)
+  pub short : length (display_term style (term_of s terms n)) < 4398046511104
 
 -- r is the length of the text of a term, which fits 42 bits
 pub record TermLength (text : List ℕ) (r : ℕ) : Type 0 where

@@ -12,14 +12,16 @@ ghost use Rattle.definitions.specs.Answers.{is_in_room, named_term, goal_prop, s
 ghost use Rattle.output.specs.Written.{written_of, Fills};
 ghost use Rattle.vocabulary.specs.Vocabulary.{name_in};
 ghost use Rattle.declarations.specs.Memory.{declared_uses, Declared};
-ghost use Rattle.text.specs.Declaring.{sheet_vocabulary, heading_lines, term_of, Declares, Arranges, EndsKnown, HeadingLength, TermLength};
+ghost use Rattle.sheet_term.specs.Held.{HeldTerm};
+ghost use Rattle.text.specs.Declaring.{sheet_vocabulary, heading_lines, term_of, Declares, Arranges, EndsKnown, HeadingLength, TermLength, Prints};
 
 use declaration_length::lines_length;
 use declaration_order::sort_declarations;
-use declarations::{Declaration, Declarations, put_declarations};
+use declarations::{COUNTS, Declaration, Declarations, put_declarations};
 use definitions::{Reason, Refusal, Style, TermList, Version};
 use number::pair_offset;
 use output::{Sink, Writer};
+use proof_term_display::Printer;
 use proof_term_length::term_length;
 use proof_term_lists::put_term_uses;
 use prop::{Propositions, fill_all_ends};
@@ -28,7 +30,7 @@ use sheet::{AdmittedSheet, Sheet};
 use sheet_term::{SheetTerm, TERM_NUMBERS};
 
 // As many declarations as there are names and counts of parameters.
-const DECLARATION_LIMIT: usize = Sheet::NAME_LIMIT * (Sheet::PARAMETER_LIMIT + 1);
+const DECLARATION_LIMIT: usize = COUNTS * Sheet::NAME_LIMIT;
 
 // The cap to which the bytes of a term's text are counted. No sheet's term has as many, so each is counted whole.
 const TERM_TEXT_LIMIT: usize = 1 << 42;
@@ -83,6 +85,26 @@ fn declare_both<'m>(
     (first, second)
 }
 
+// What the term's text is printed and measured by: its records, the sheet's names and propositions with their ends, and the style.
+fn printer<'a>(
+    held: &SheetTerm<'a, 'a>,
+    style: Style,
+    ends: &'a [u16; Sheet::CODE_LIMIT],
+) -> Printer<'a>
+    requires { EndsKnown held.now.0 ends.now }
+    ensures { HeldTerm held.now.0 held.now.1 held.now.2 →
+        Prints held.now.0 held.now.1 held.now.2 style result }
+{
+    Printer {
+        records: held.terms(),
+        propositions: Propositions {
+            memory: held.memory(),
+            ends,
+        },
+        style,
+    }
+}
+
 // The term, from its records.
 fn put_term<S: Sink<u8>>(
     held: &SheetTerm,
@@ -93,11 +115,7 @@ fn put_term<S: Sink<u8>>(
     requires { EndsKnown held.now.0 ends.now }
     ensures { S.puts sink.old (display_term style (term_of held.now.0 held.now.1 held.now.2)) sink.new }
 {
-    let propositions = Propositions {
-        memory: held.memory(),
-        ends,
-    };
-    proof_term_display::put_term(sink, held.terms(), held.record(), propositions, style);
+    printer(held, style, ends).put(sink, held.record());
 }
 
 // How long the term's text is.
@@ -105,17 +123,7 @@ fn measure_term(held: &SheetTerm, style: Style, ends: &[u16; Sheet::CODE_LIMIT])
     requires { EndsKnown held.now.0 ends.now }
     ensures { TermLength (display_term style (term_of held.now.0 held.now.1 held.now.2)) result }
 {
-    let propositions = Propositions {
-        memory: held.memory(),
-        ends,
-    };
-    term_length(
-        held.terms(),
-        held.record(),
-        propositions,
-        style,
-        TERM_TEXT_LIMIT,
-    )
+    term_length(printer(held, style, ends), held.record(), TERM_TEXT_LIMIT)
 }
 
 // How long the text of the term in a version is.

@@ -6,5 +6,4 @@ pub mod Indexing
 pub mod Numbers
 pub mod NewName
 pub mod Added
-pub mod Rows
 pub mod Spelled

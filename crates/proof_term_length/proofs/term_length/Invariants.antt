@@ -6,4 +6,4 @@ use Rattle.proof_term_length.proofs.term_length.Given as goal
 
 abbrev pub invariant-loop-m : goal.invariant-loop-m
 invariant-loop-m l =
-    (length l.lengths ≡ 2048) × LengthsBelow l.measure l.lengths l.m × KnownLengths l.measure.propositions l.known
+    (length l.lengths ≡ 2048) × LengthsBelow l.measure l.lengths l.m × KnownLengths l.measure.printer.propositions l.known

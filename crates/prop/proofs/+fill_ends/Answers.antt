@@ -61,6 +61,3 @@ offset_bounds-ends-at t c = omega (arith, within t (goal.at.offset_bounds-ends-a
 
 pub bounds-ends-at : goal.bounds-ends-at
 bounds-ends-at t c = entry_inside t (goal.at.bounds-ends-at t c).At-loop
-
-pub shape_of-ends : goal.shape_of-ends
-shape_of-ends t c = simp length-set c.loop.invariant.so_far.size

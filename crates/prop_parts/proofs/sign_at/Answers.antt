@@ -15,7 +15,7 @@ use Rattle.std.proofs.lemmas.Iterator.{YieldsList-from_slice}
 use Rattle.std.proofs.lemmas.Iterator.Search.{find_from_yields_List}
 use Rattle.definitions.specs.Utf8.{utf8}
 use Rattle.definitions.specs.TermReader.{sign}
-use Rattle.words.proofs.Rows.{mapped_row}
+use Rattle.prop_parts.proofs.Rows.{mapped_row}
 use Rattle.words.proofs.Runs.{expect_found, expect_fails}
 use Rattle.prefix_code.specs.declared.Quantifier.TheVariants.{ForAll, Exists}
 use Rattle.prop_parts.specs.declared.Constant.TheVariants.{Top, Bottom}

@@ -124,9 +124,6 @@ read_prop-loop-init t c =
     let (q, reads, given) = (c.in_ok-left.ensures ns b).answer in
     turned given.within
 
-pub read_prop-goes_on-requires : goal.read_prop-goes_on-requires
-read_prop-goes_on-requires t c = c.loop.invariant.within
-
 pub read_prop-shape_of-bound-in_default : goal.read_prop-shape_of-bound-in_default
 read_prop-shape_of-bound-in_default t c = (looped t (goal.at.read_prop-shape_of-bound-in_default t c).At-loop).0
 

@@ -6,18 +6,6 @@ use Rattle.definitions.specs.Answers.{version_of, located, column_of, names_step
 use Rattle.skriduhol.specs.Asked.{asked_of}
 use Rattle.skriduhol.proofs.asked_version.Goals as goal
 
-pub returns-in-1 : goal.returns-in-1
-unfolding asked_of version_of
-returns-in-1 c = λ s. rw c.in-1.is
-
-pub returns-in-2 : goal.returns-in-2
-unfolding asked_of version_of
-returns-in-2 c = λ s. rw c.in-2.is
-
-pub returns-in-3 : goal.returns-in-3
-unfolding asked_of version_of
-returns-in-3 c = λ s. rw c.in-3.is
-
 pub returns-in_default : goal.returns-in_default
 unfolding asked_of version_of refuse located column_of names_step
 returns-in_default c = λ s. rw (c.from.ensures, c.at.ensures) (search (rules, ne_eqb))

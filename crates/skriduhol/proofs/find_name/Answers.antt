@@ -39,9 +39,6 @@ returns-in_err-h c =
 pub vocabulary-requires : goal.vocabulary-requires
 vocabulary-requires c = (has_header (goal.at.vocabulary-requires c).In_ok-h).in_range
 
-pub invariant_of-memory : goal.invariant_of-memory
-invariant_of-memory c = record { fits = λ i. omega (arith, c.type_inv.s i) }
-
 pub invariant_of-index : goal.invariant_of-index
 invariant_of-index c =
     record { within = rw c.vocabulary.ensures (within (has_header (goal.at.invariant_of-index c).In_ok-h)) }

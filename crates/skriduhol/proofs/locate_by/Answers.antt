@@ -19,16 +19,6 @@ module _ (h d : List ℕ) (r : Refusal) {w : Whose} where
   unfolding located_by
   of_donor e = rw e
 
-pub locate-located-requires : goal.locate-located-requires
-locate-located-requires c = c.requires.0 c.in-Host.is
-
-pub locate-located-requires-in-Donor : goal.locate-located-requires-in-Donor
-locate-located-requires-in-Donor c = c.requires.1 c.in-Donor.is
-
-pub returns-in-Neither : goal.returns-in-Neither
-unfolding located_by
-returns-in-Neither c = rw (c.in-Neither.is, c.from-located.ensures)
-
 pub returns-in-Host : goal.returns-in-Host
 returns-in-Host c = ap (λ (l : Located). (c.args.refused.0, l)) (c.locate-located.ensures ∙ of_host _ _ _ c.in-Host.is)
 

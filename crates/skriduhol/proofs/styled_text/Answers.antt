@@ -5,6 +5,3 @@ use Rattle.skriduhol.proofs.styled_text.Goals as goal
 
 pub returns-in_err-held : goal.returns-in_err-held
 returns-in_err-held c = no_text _ _ _ c.in_err-held.ensures (search rules) _
-
-pub returns : goal.returns
-returns c = rw c.in_ok-held.ensures.same at c.text.ensures

@@ -21,7 +21,7 @@ pub returns-in-76 : goal.returns-in-76
 unfolding item_text
 returns-in-76 c =
     let m = c.args.self.now in
-    let shown = parameter_label_shown m.propositions.memory.bytes.now m.propositions.memory.vocabulary m.records.now c.args.n c.parameter_at.ensures in
+    let shown = parameter_label_shown m.printer.propositions.memory.bytes.now m.printer.propositions.memory.vocabulary m.printer.records.now c.args.n c.parameter_at.ensures in
     rw (item_of_parameter _ c.in-76.is) (agree_exactly (c.parameter_length.ensures.0 ∙ ap length shown), c.parameter_length.ensures.1)
 
 pub label_length-requires-clause-has_label : goal.label_length-requires-clause-has_label
@@ -34,7 +34,7 @@ pub returns-in-77 : goal.returns-in-77
 unfolding item_text
 returns-in-77 c =
     let m = c.args.self.now in
-    let shown = label_shown m.propositions.memory.bytes.now m.propositions.memory.vocabulary m.records.now c.args.n c.label_at.ensures in
+    let shown = label_shown m.printer.propositions.memory.bytes.now m.printer.propositions.memory.vocabulary m.printer.records.now c.args.n c.label_at.ensures in
     rw (item_of_ascription _ c.in-77.is) (agree_exactly (c.label_length.ensures.0.is ∙ ap length shown), c.label_length.ensures.1)
 
 pub returns-in-49-to-53 : goal.returns-in-49-to-53

@@ -21,5 +21,5 @@ pub returns-in-Datatype : goal.returns-in-Datatype
 unfolding rename_label display_label
 returns-in-Datatype c =
     let name = c.name_length.ensures in
-    let names = name_of c.args.self.now.propositions.memory in
+    let names = name_of c.args.self.now.printer.propositions.memory in
     rw c.in-Datatype.is (record { is = name.is ∙ ap (λ i. length (names i)) c.from.ensures; small = omega (arith, name.small) }, c.requires.known)

@@ -5,7 +5,7 @@ use Rattle.proof_term_length.proofs.Measure.record_length.Goals as goal
 
 pub loop-b-init : goal.loop-b-init
 loop-b-init c =
-    (start _ _ _ _ _ _ _ c.kind_at.result c.requires.measurable (kind_seen c.args.self.now.records.now c.args.n c.kind_at.ensures) c.format_of-b-items.ensures, c.requires.known)
+    (start _ _ _ _ _ _ _ c.kind_at.result c.requires.measurable (kind_seen c.args.self.now.printer.records.now c.args.n c.kind_at.ensures) c.format_of-b-items.ensures, c.requires.known)
 
 pub loop-b-preserved : goal.loop-b-preserved
 loop-b-preserved c =

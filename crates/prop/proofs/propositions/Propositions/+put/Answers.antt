@@ -52,9 +52,6 @@ left_part g t c =
     let b = sides_here g t c in
     (omega (arith, c.decreases, inside b.parts.left.present, b.left_is), part_of c.requires (rw b.left_is b.parts.left))
 
-pub put-shape-requires : goal.put-shape-requires
-put-shape-requires g t c = record { within = c.requires.within; present = c.requires.known.present }
-
 pub put-returns-in-True : goal.put-returns-in-True
 unfolding prop_in
 put-returns-in-True g t c = rw (← (true_text (name_of c.args.self.now.memory) c.in-True.ensures)) c.put_all.ensures

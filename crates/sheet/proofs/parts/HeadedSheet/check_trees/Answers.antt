@@ -162,10 +162,6 @@ leaves_trees-requires c =
     let passed = (goal.at.leaves_trees-requires c).In_ok-refuse_at in
     (c.args.self.now.headed.in_range.some_step, table_long_enough passed, program_table passed)
 
-pub at-requires : goal.at-requires
-unfolding step_limit
-at-requires c = omega (arith, c.args.self.now.headed.in_range.steps)
-
 pub returns-then-leaves_trees : goal.returns-then-leaves_trees
 unfolding tree_checks header_of
 returns-then-leaves_trees c =
@@ -175,10 +171,6 @@ returns-then-leaves_trees c =
           (stops _ (refused_if _ _ (trees_test at.After-leaves_trees ∙ c.if-leaves_trees.true) (rw c.args.self.now.headed.header at c.at.ensures)));
       sized = sized at.After-fill_sizes;
     }
-
-pub first_deep_tree-requires : goal.first_deep_tree-requires
-unfolding step_limit
-first_deep_tree-requires c = c.args.self.now.headed.in_range.steps
 
 pub refuse_at-requires-2 : goal.refuse_at-requires-2
 refuse_at-requires-2 c = fits _ _ (height_search (goal.at.refuse_at-requires-2 c).After-first_deep_tree) (steps_fit c.args.self.now.headed)
