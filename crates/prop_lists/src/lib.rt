@@ -6,7 +6,7 @@ ghost use Rattle.std.specs.Prelude.{◌≡◌, ℕ, List, [], ◌∷◌, ◌<◌
 ghost use Rattle.definitions.specs.Prop.{AtomUse};
 ghost use Rattle.definitions.specs.Code.{parameter_limit};
 ghost use Rattle.vocabulary.specs.Memory.{prop_of, PropositionAt};
-ghost use Rattle.prop_lists.specs.Entries.{use_of, entries, own_entry};
+ghost use Rattle.prop_lists.specs.Entries.{use_of, entries, own_entry, entry_numbers};
 ghost use Rattle.prop_lists.specs.UseSinkLaws.{UseSinkLaws};
 
 use definitions::TermList;
@@ -17,15 +17,15 @@ use vocabulary::Memory;
 // An entry of a list: the number of a name, and an atom's parameter count or 0 for a datatype. The count is no Option: a datatype is declared
 // as the use of a name with the count 0, so the 0 is what a None would be turned into at once.
 #[derive(Clone, Copy)]
-struct Entry {
-    name: usize,
-    count: usize,
+pub struct Entry {
+    pub name: usize,
+    pub count: usize,
 }
 
 // What the shape of a proposition adds to a list, its parts aside: an atom its name and its count, a quantifier its datatype. Which list is
 // asked for is the caller's value, so the lists differ here and in an entry's numbers.
 #[tactic(auto, unfolding(crate::specs::Entries::own_entry))]
-fn own_entry(list: TermList, shape: Shape) -> Option<Entry>
+pub fn own_entry(list: TermList, shape: Shape) -> Option<Entry>
     ensures { result ≡ own_entry list shape }
 {
     match (list, shape) {
@@ -38,6 +38,19 @@ fn own_entry(list: TermList, shape: Shape) -> Option<Entry>
             count: 0,
         }),
         _ => None,
+    }
+}
+
+// The numbers of an entry: an atom's name and count, a datatype's name.
+#[tactic(auto, unfolding(crate::specs::Entries::entry_numbers))]
+pub fn put_entry<S: Sink<u16>>(sink: &mut S, list: TermList, name: u16, count: usize)
+    requires { count < 65536 }
+    ensures { S.puts sink.old (entry_numbers list (use_of name count ∷ [])) sink.new }
+{
+    sink.put(name);
+    match list {
+        TermList::Atoms => sink.put(count as u16),
+        TermList::Datatypes(_) => {}
     }
 }
 
@@ -76,13 +89,9 @@ impl<'a, S: Sink<u16>> UseSink for Numbers<'a, S> {
 
     ghost laws = { numbers_laws S.laws };
 
-    #[tactic(auto, unfolding(definitions::specs::Code::parameter_limit, crate::specs::Entries::entry_numbers))]
+    #[tactic(auto, unfolding(definitions::specs::Code::parameter_limit))]
     fn put_use(&mut self, name: u16, count: usize) {
-        self.sink.put(name);
-        match self.list {
-            TermList::Atoms => self.sink.put(count as u16),
-            TermList::Datatypes(_) => {}
-        }
+        put_entry(self.sink, self.list, name, count);
     }
 }
 
