@@ -28,7 +28,7 @@ fn is_listed(label: Label, list: TermList) -> bool
 // What a record adds to a list: its label, if it has one that the list takes up. The list is a value that is asked for, as
 // prop_lists::own_entry says.
 #[tactic(auto, unfolding(crate::specs::Labels::record_adds))]
-fn record_adds(term_records: &[u16], m: usize, list: TermList) -> Option<Label>
+pub fn record_adds(term_records: &[u16], m: usize, list: TermList) -> Option<Label>
     requires { record_size * (m + 1) ≤ length term_records.now }
     ensures { result ≡ record_adds list term_records.now m }
 {
