@@ -1,11 +1,11 @@
 -- How many names there are, as each of them is judged behind those before it.
-use Prim.Native.Nat.{ℕ, ◌≤◌, ◌<◌}
+use Prim.Native.Nat.{ℕ, suc, ◌+◌, ◌*◌, ◌≤◌, ◌<◌}
 use mathlib.Core.Path.{◌≡◌, refl, sym, ◌∙◌, ap, subst}
 use mathlib.Core.Bool.{Bool, true, false, ◌&&◌, ◌||◌, not}
 use mathlib.Core.List.{List, [], ◌∷◌, ◌++◌, append_assoc}
 use native.Mathlib.Omega.{arith}
 use lib.ListN.{length, length-append}
-use lib.Dec.{ltb}
+use lib.Dec.{ltb, leb, eqb}
 use lib.ListN.{length-map}
 use native.Mathlib.Decide.{dec_lt}
 use mathlib.Core.Logic.{by_cases}
@@ -13,14 +13,16 @@ use mathlib.Core.List.{map, append-nil}
 use denote.Ref.{Bor}
 use Rattle.std.proofs.lemmas.Iterator.{YieldsList}
 use Rattle.std.specs.Iterator.{AlwaysYields, Yields}
-use Rattle.std.specs.Prelude.{Option}
-use Rattle.definitions.specs.CallerNames.{names_in}
-use borrow.Author.Tests.{lt-ltb, le-ltb, ltb-false}
+use Rattle.std.specs.Prelude.{Option, cond}
+use Rattle.std.proofs.lemmas.Bool.{and_parts}
+use Rattle.definitions.specs.CallerNames.{newline, in_front, pieces, names_in}
+use borrow.Author.Tests.{lt-ltb, le-ltb, ltb-false, leb-true}
 use Rattle.std.specs.List.{list_any}
 use Rattle.std.specs.Str.{bytes_eq}
 use Rattle.identifier.proofs.Comparing.{eq_name_is}
 use Rattle.std.specs.Prelude.{None, Some}
-use Rattle.definitions.specs.Name.{Name, eq_name}
+use Rattle.definitions.specs.Name.{Name, is_name, eq_name}
+use Rattle.definitions.specs.Sheet.{name_length_limit}
 use Rattle.definitions.specs.Text.{occurs}
 use Rattle.definitions.specs.CallerNames.{well_formed, all_well_formed}
 use Rattle.definitions.specs.Exercises.{repeated, exercise_name_limit, bad_names}
@@ -106,6 +108,46 @@ bad_front : (names rest : List Name) → bad_names names ≡ true → bad_names 
 bad_front names [] bad = rw append-nil bad
 bad_front names (x ∷ rest) bad = rw append_assoc at (bad_front (with_name names x) rest (still_bad names x bad))
 
+-- the bytes of some names, each with one more behind it
+unfoldable total : List Name → ℕ
+total [] = 0
+total (a ∷ names) = length a + 1 + total names
+
+in_front_total : (b : ℕ) (names : List Name) → total names + 1 ≤ total (in_front b names)
+unfolding total in_front
+in_front_total b [] = omega arith
+in_front_total b (a ∷ names) = omega arith
+
+-- the pieces of a text have its bytes, and newlines between them
+pieces_total : (s : List ℕ) → length s + 1 ≤ total (pieces s)
+unfolding total pieces newline
+pieces_total [] = omega arith
+pieces_total (b ∷ s) = elim (eqb b 10) as (λ t. suc (length s) + 1 ≤ total (cond t ([] ∷ pieces s) (in_front b (pieces s)))) [
+  | true ↦ omega (arith, pieces_total s)
+  | false ↦ omega (arith, pieces_total s, in_front_total b (pieces s))
+]
+
+-- names have at most 32 bytes each
+names_total : (names : List Name) → all_well_formed names ≡ true → total names ≤ 33 * length names
+unfolding total all_well_formed well_formed name_length_limit
+names_total [] formed = omega arith
+names_total (a ∷ names) formed =
+    let (first, rest) = and_parts (well_formed a) (all_well_formed names) formed in
+    let (short, is) = and_parts (leb (length a) 32) (is_name a) first in
+    omega (arith, leb-true (length a) 32 short, names_total names rest)
+
+-- more than 98 bytes are names too many, or one that is too long
+long : (names : List Name) → 99 < total names → bad_names names ≡ true
+unfolding bad_names exercise_name_limit
+long names h = by_cases (dec_lt 3 (length names))
+    (λ many. rw (lt-ltb 3 (length names) many) refl)
+    (λ few. go (ltb 3 (length names)) (all_well_formed names) (repeated names) (λ formed. omega (arith, h, few, names_total names formed)))
+  where
+    go : (many all twice : Bool) → (all ≡ true → ⊥) → (many || not all || twice) ≡ true
+    go true all twice bad = refl
+    go false true twice bad = absurd (bad refl)
+    go false false twice bad = refl
+
 -- where a name may stand behind the names before it
 module _ (earlier : List (Bor (List ℕ))) (x : Name) (good : bad_names (names_of earlier) ≡ false) where
   pub no_room : 3 ≤ length earlier → false ≡ not (bad_names (with_name (names_of earlier) x))
@@ -149,6 +191,12 @@ module _ {S A B : Type 0} (steps : S → Option A → S → Type 0) (v : A → B
 pub refused : (text : List ℕ) (names rest : List Name) → names_in text ≡ names ++ rest → bad_names names ≡ true → None ≡ count_of (names_in text)
 unfolding count_of
 refused text names rest is bad = rw (is, bad_front names rest bad) refl
+
+-- a text longer than names that may be asked about
+pub too_long : (text : List ℕ) → 99 ≤ length text → None ≡ count_of (names_in text)
+unfolding count_of names_in
+too_long [] h = absurd (omega (arith, h))
+too_long (b ∷ s) h = rw (long (pieces (b ∷ s)) (omega (arith, h, pieces_total (b ∷ s)))) refl
 
 -- names that may be asked about
 pub counted : (text : List ℕ) (slices : List (Bor (List ℕ))) (count : ℕ) → names_in text ≡ names_of slices → bad_names (names_of slices) ≡ false

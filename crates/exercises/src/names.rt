@@ -5,6 +5,7 @@ ghost use Rattle.definitions.specs.Exercises.{bad_names};
 ghost use Rattle.exercises.specs.Names.{names_of, with_name, count_of};
 
 use caller_names::{names_in, well_formed};
+use identifier::NAME_LENGTH_LIMIT;
 
 // At most so many names.
 const NAME_LIMIT: usize = 3;
@@ -28,6 +29,11 @@ fn may_follow(earlier: &[&[u8]], name: &[u8]) -> bool
 pub fn count_names(text: &[u8]) -> Option<usize>
     ensures { result ≡ count_of (names_in text.now) }
 {
+    // As many names as there may be, with the newlines between them, have fewer bytes. So a longer text is refused, and no piece of it is
+    // searched for its end.
+    if NAME_LIMIT * (NAME_LENGTH_LIMIT + 1) <= text.len() {
+        return None;
+    }
     // There is no heap, so that the names so far are the first `count` of an array. An `output::Writer` over it would count them the same, as
     // its position, and past the end too.
     let mut names = [text; NAME_LIMIT];

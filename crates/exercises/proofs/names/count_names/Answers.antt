@@ -1,4 +1,4 @@
--- Each name is judged behind those before it.
+-- A text that is not too long is judged name by name, each behind those before it.
 use mathlib.Core.Path.{◌≡◌, refl, sym, ap, ◌∙◌}
 use Rattle.std.specs.Prelude.{None}
 use mathlib.Core.Bool.{false}
@@ -12,10 +12,13 @@ use Rattle.std.proofs.Math.Seq.{take-suc-set}
 use Rattle.std.proofs.lemmas.Iterator.Consumers.{YieldsList-from_first, YieldsList-end}
 use Rattle.caller_names.specs.Left.{names_left}
 use Rattle.definitions.specs.Exercises.{bad_names}
-use Rattle.exercises.proofs.Counting.{next_given, refused, counted, verdict, room, names_more}
+use Rattle.exercises.proofs.Counting.{next_given, refused, counted, verdict, room, names_more, too_long}
 use Rattle.exercises.specs.Names.{names_of, with_name}
 use Rattle.exercises.proofs.names.count_names.Goals as goal
 use Rattle.exercises.proofs.names.count_names.Goals.{Else-not-may_follow}
+
+pub returns-then-text : goal.returns-then-text
+returns-then-text c = too_long c.args.text.now (omega (arith, c.if-text.true))
 
 pub returns-then-not-may_follow : goal.returns-then-not-may_follow
 returns-then-not-may_follow c =
