@@ -2,15 +2,28 @@
 // sheet has its index beside it, so that a name is found at once.
 #![tactic(auto)]
 
-ghost use Rattle.std.specs.Prelude.{◌≡◌, ◌+◌, ◌<◌, length};
+ghost use Rattle.std.specs.Prelude.{◌≡◌, true, false, cond, ◌+◌, ◌<◌, length};
 ghost use Rattle.definitions.specs.Sheet.{names};
 ghost use Rattle.definitions.specs.Graft.{missing};
 ghost use Rattle.graft_laws.specs.Missing.{missing_below};
 ghost use Rattle.sheet.specs.Admitted.{Accepted};
+ghost use Rattle.vocabulary.specs.Memory.{HasName, name_of};
 ghost use Rattle.merged_names.specs.Numbered.{Indexed, Numbered, Known, NumberedTo, SameMemory};
 
 use name_index::{Index, SLOT_COUNT, build};
 use sheet::AdmittedSheet;
+use vocabulary::Memory;
+
+// Name i of the host where the host holds it, else of the donor: a part of one of the two memories.
+pub fn name_bytes<'a>(host: &Memory<'a>, donor: &Memory<'a>, held: bool, i: usize) -> &'a [u8]
+    requires { (held ≡ true → HasName host.now i) × (held ≡ false → HasName donor.now i) }
+    ensures { result.now ≡ cond held (name_of host.now i) (name_of donor.now i) }
+{
+    if held {
+        return host.name(i);
+    }
+    donor.name(i)
+}
 
 // The names of a sheet with their index, which is built in lent slots.
 pub fn index_names<'a, 's: 'a>(
