@@ -58,6 +58,7 @@ fn compare_propositions(sheet: &AdmittedSheet, p: u16, q: u16) -> Result<bool, R
 
 // Two conclusions, be they those of steps or not: a proposition and a type judgement are a no. A comparison of propositions up to the
 // names of their objects may be refused, as that of two sheets' code bytes never is, so the two have no common match.
+#[tactic(auto, using(crate::proofs::Conclusions::proposition_and_judgement, crate::proofs::Conclusions::judgement_and_proposition), unfolding(definitions::specs::Comparison::no))]
 pub fn compare_conclusions(
     sheet: &AdmittedSheet,
     left: Conclusion,
