@@ -17,7 +17,7 @@ mod name_table;
 
 use caller_names::{names_in, well_formed};
 use identifier::Class;
-pub use name_table::NameTable;
+pub use name_table::{NameTable, put_pair};
 
 // Where the name bytes from `at` on end.
 pub fn word_end(text: &[u8], at: usize) -> usize

@@ -27,11 +27,11 @@ pub struct NameTable<'t> {
 
 // Stores the pair of a name that stands from `at` to `end` as number `count`.
 #[tactic(auto, unfolding(definitions::specs::Sheet::pair_size, definitions::specs::TermText::term_text_limit, definitions::specs::Sheet::name_length_limit, crate::specs::Names::with_pair))]
-fn put_pair(pairs: &mut [u8], count: u16, at: usize, end: usize)
+pub fn put_pair(pairs: &mut [u8], count: usize, at: usize, end: usize)
     requires { PairFits pairs.old count at end }
     ensures { pairs.new ≡ with_pair pairs.old count at end }
 {
-    let to = PAIR_SIZE * usize::from(count);
+    let to = PAIR_SIZE * count;
     let pair = [at as u16, (end - at) as u16];
     put_u16s(&mut Writer { out: pairs, to }, &pair);
 }
@@ -74,7 +74,7 @@ impl<'t> NameTable<'t> {
 
     // The number of a name with these bytes, or the slot that the name would enter.
     #[tactic(auto, using(crate::proofs::Indexing::slots_size, crate::proofs::Indexing::number_below), unfolding(crate::specs::Table::searched))]
-    fn find(&self, name: &[u8]) -> Result<usize, usize>
+    pub fn find(&self, name: &[u8]) -> Result<usize, usize>
         ensures { result ≡ searched self.now name.now }
     {
         probe_by(&self.slots, name, |number| self.is_named(number, name))
@@ -94,7 +94,7 @@ impl<'t> NameTable<'t> {
                 if usize::from(count) == NAME_LIMIT {
                     return None;
                 }
-                put_pair(&mut self.pairs, count, at, end);
+                put_pair(&mut self.pairs, usize::from(count), at, end);
                 self.slots[slot] = count;
                 self.count = count + 1;
                 Some(count)

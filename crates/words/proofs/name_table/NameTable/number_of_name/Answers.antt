@@ -39,7 +39,7 @@ returns-then-from-eq-NAME_LIMIT c =
 
 pub put_pair-requires : goal.put_pair-requires
 unfolding name_limit
-put_pair-requires c = pair_fits c.args.self.now.table (λ e. c.if-from-eq-NAME_LIMIT.false (c.from.ensures ∙ e)) c.requires
+put_pair-requires c = rw c.from-in-Err.ensures (pair_fits c.args.self.now.table (λ e. c.if-from-eq-NAME_LIMIT.false (c.from.ensures ∙ e)) c.requires)
 
 pub offset_bounds-self-slot : goal.offset_bounds-self-slot
 unfolding slot_count
@@ -53,7 +53,7 @@ pub invariant_of-self : goal.invariant_of-self
 unfolding name_limit searched
 invariant_of-self c =
     let table = table_after c.args.self.now.table (λ e. c.if-from-eq-NAME_LIMIT.false (c.from.ensures ∙ e)) c.requires (absent (goal.at.invariant_of-self c).In-Err) in
-    record { table = rw c.put_pair.ensures table }
+    record { table = rw (c.put_pair.ensures, c.from-in-Err.ensures) table }
 
 pub returns-in-Ok : goal.returns-in-Ok
 returns-in-Ok c = found_again c.args.self.now _ (held c)
@@ -62,4 +62,4 @@ pub returns-else-from-eq-NAME_LIMIT : goal.returns-else-from-eq-NAME_LIMIT
 unfolding name_limit
 returns-else-from-eq-NAME_LIMIT c =
     one_more c.args.self.now (λ e. c.if-from-eq-NAME_LIMIT.false (c.from.ensures ∙ e)) c.requires (absent (goal.at.returns-else-from-eq-NAME_LIMIT c).In-Err)
-    _ refl c.put_pair.ensures refl
+    _ refl (rw c.from-in-Err.ensures at c.put_pair.ensures) refl
