@@ -29,7 +29,7 @@ pub struct BoundObjects {
 // What the quantifiers above two propositions bind, the latest first: those of each lie in the frame of the walk that goes below its two
 // quantifiers, so that it is there for as long as the walk is below them.
 #[derive(Clone, Copy)]
-enum Binders<'a> {
+pub enum Binders<'a> {
     Empty,
     Latest(BoundObjects, &'a Binders<'a>),
 }
@@ -37,9 +37,9 @@ enum Binders<'a> {
 // The code of two propositions, with the names that it has by their numbers. What is asked and answered of it is
 // one relation of a coding, and each function names its own coding in it.
 #[derive(Clone, Copy)]
-struct NamedCode<'a> {
-    code: &'a [u8],
-    names: Marked<'a>,
+pub struct NamedCode<'a> {
+    pub code: &'a [u8],
+    pub names: Marked<'a>,
 }
 
 // Two uninstantiated parameters, by the latest binding that has either: 19 where there is none.
@@ -166,7 +166,7 @@ impl NamedCode<'_> {
 
     // The propositions at i and j under some bindings, by the head that stands in front of both.
     #[cycle(scope_sides_under)]
-    fn under<'a>(&self, i: usize, j: usize, bindings: &'a Binders<'a>) -> Compared
+    pub fn under<'a>(&self, i: usize, j: usize, bindings: &'a Binders<'a>) -> Compared
         requires { ComparableIn proposition_coding self.now i j bindings.now }
         ensures { AnswersIn proposition_coding self.now i j alpha_eq_under_in bindings.now result }
     {
