@@ -64,6 +64,9 @@ impl From<u8> for Question {
 // The most bytes or numbers that are lent. Memory is zero before it is lent.
 const ROOM: usize = 65536;
 
+// The most numbers that are read of an answer: their bytes fill the room.
+const NUMBERS: usize = ROOM / 2;
+
 // The most numbers of the hypotheses of a judgement.
 const HYPOTHESES: usize = 256;
 
@@ -142,19 +145,23 @@ fn listed<T>(answer: Result<T, Located>) -> Result<T, Refused> {
 // Bytes and numbers are read and compared by functions of their own: over a type parameter it stays open that an array of it fits memory,
 // and that its `==` may be called.
 
-// Memory as it is to be left: so many bytes of the list, at most the room, and zeros past them. All of it is compared with memory that
-// was lent, which holds zeros past an answer too, so that a slice of the list would say less.
+// So many bytes of the list, at most the room, and zeros past them and past the list's end. All of an answer is compared with memory that
+// was lent, which holds zeros past the answer too, and what is asked about is as long as the list says: a slice of the list would say less.
 fn read_memory(rest: &mut &[u8], count: usize) -> [u8; ROOM] {
     let mut bytes = [0; ROOM];
     input::read_full(rest, &mut bytes[..count.min(ROOM)]);
     bytes
 }
 
-// The same of so many numbers.
+// The same of so many numbers, at most those whose bytes fill the room. Those that the memory has no place for are read over.
 fn read_numbers<const N: usize>(rest: &mut &[u8], count: usize) -> [u16; N] {
     let mut numbers = [0; N];
-    for number in &mut numbers[..count.min(N)] {
+    let listed = count.min(NUMBERS);
+    for number in &mut numbers[..listed.min(N)] {
         *number = read_u16(rest);
+    }
+    for _ in N..listed {
+        read_u16(rest);
     }
     numbers
 }
@@ -227,11 +234,11 @@ fn index_agrees(rest: &mut &[u8], s: &[u8]) -> bool {
 // A name is sought in the sheet's own index, or, where that is refused, in slots that all hold 0.
 fn search_agrees(rest: &mut &[u8], s: &[u8]) -> bool {
     let length = usize::from(read_byte(rest));
-    let name = read_bytes(rest, length);
+    let name = read_memory(rest, length);
     let expected = read_option(rest, usize::from(FREE));
     let mut slots = [0; SLOT_COUNT];
     let _ = skriduhol::name_index(s, &mut slots);
-    listed(skriduhol::find_name(s, &slots, name)) == expected
+    listed(skriduhol::find_name(s, &slots, &name[..length])) == expected
 }
 
 // What is given for a restatement stands in the order of a step record.
@@ -315,23 +322,24 @@ fn term_agrees(rest: &mut &[u8], text: &[u8], datatypes: &[u8]) -> bool {
 // The text stands where other questions have a sheet.
 fn reading_agrees(rest: &mut &[u8], text: &[u8]) -> bool {
     let length = usize::from(read_u16(rest));
-    let datatypes = read_bytes(rest, length);
-    term_agrees(rest, text, datatypes)
+    let datatypes = read_memory(rest, length);
+    term_agrees(rest, text, &datatypes[..length])
 }
 
-// What a graft answers: a length, or a refusal and whose it is.
-type GraftAnswer = Result<usize, (Whose, Refused)>;
+// What a graft answers: a length, or a refusal and whose it is. No graft answers as the list does where the list says nobody's.
+type GraftAnswer = Result<usize, (Option<Whose>, Refused)>;
 
 fn grafted_answer(grafted: Result<usize, (Whose, Located)>) -> GraftAnswer {
-    grafted.map_err(|(whose, located)| (whose, Refused::from(located)))
+    grafted.map_err(|(whose, located)| (Some(whose), Refused::from(located)))
 }
 
-// The list's numbers of those whose a refusal is; any other is neither's.
-fn read_whose(rest: &mut &[u8]) -> Whose {
+// The list's numbers of those whose a refusal is; any other is nobody's.
+fn read_whose(rest: &mut &[u8]) -> Option<Whose> {
     match read_byte(rest) {
-        1 => Whose::Host,
-        2 => Whose::Donor,
-        _ => Whose::Neither,
+        0 => Some(Whose::Neither),
+        1 => Some(Whose::Host),
+        2 => Some(Whose::Donor),
+        _ => None,
     }
 }
 
