@@ -53,15 +53,13 @@ fn fitting(length: usize, to: usize, count: usize) -> usize
     length.saturating_sub(to).min(count)
 }
 
-// Stores elements that lie within the memory.
-#[tactic(auto, using(crate::proofs::Writing::stored_part))]
+// Stores elements that lie within the memory, one by one: `copy_from_slice` asks of who links a library for C that there is a `memmove`.
 fn copy<T: Copy + Drop>(out: &mut [T], to: usize, part: &[T])
     requires { length part.now ≤ length out.old - to }
     ensures { out.new ≡ sets out.old to part.now }
 {
-    // Past the end nothing fits, and there is no part to name.
-    if 0 < part.len() {
-        out[to..to + part.len()].copy_from_slice(part);
+    for i in 0..part.len() {
+        out[to + i] = part[i];
     }
 }
 
