@@ -2,11 +2,11 @@
 // that `text` hands over lies past every term of a sheet, so that each is counted whole.
 #![tactic(auto)]
 
-ghost use Rattle.std.specs.Prelude.{◌≡◌, Option, ℕ, ◌+◌, ◌*◌, ◌≤◌, ◌<◌, IfSome, min, length};
+ghost use Rattle.std.specs.Prelude.{◌≡◌, true, Option, ℕ, ◌+◌, ◌*◌, ◌≤◌, ◌<◌, IfSome, min, length};
 ghost use Rattle.proof_term.specs.Records.{record_size};
 ghost use Rattle.prop.specs.Propositions.{text_at, HasProposition};
 ghost use Rattle.prop_length.specs.Length.{TextLength};
-ghost use Rattle.proof_term_display.specs.Format.{item_of, part, part_number};
+ghost use Rattle.proof_term_display.specs.Format.{item_of, fixed, part, part_number};
 ghost use Rattle.proof_term_display.specs.Printer.{HasLabel, shown_in, shown_of_parameter};
 ghost use Rattle.proof_term_length.specs.Measure.{Agrees};
 ghost use Rattle.proof_term_length.specs.OfMeasure.{TermMeasurable, KnownLengths, length_of_term, Held, HasNames, HasShortCode, LengthsBelow, CanMeasure, LabelFitsItem, size_of_name, size_of_item, text_size};
@@ -29,6 +29,14 @@ fn sum(a: usize, b: usize, cap: usize) -> usize
     ensures { result ≡ min (a + b) cap }
 {
     a.saturating_add(b).min(cap)
+}
+
+// Whether a byte of a format lies outside of the range from 1 to M, in which all lie that stand for a name, a part or a label. Most of
+// those that stand for themselves do.
+fn is_outside(b: u8) -> bool
+    ensures { result ≡ true → item_of b ≡ fixed b }
+{
+    b < b'1' || b'M' < b
 }
 
 // The length of the text of the proposition at `at`, which is found out once: the table has it from then on.
@@ -156,7 +164,8 @@ impl Measure<'_> {
         }
     }
 
-    // The length of record `n`'s text, item by item of its kind's format, by the lengths of the records before.
+    // The length of record `n`'s text, item by item of its kind's format, by the lengths of the records before. The bytes that can only
+    // stand for themselves, most of a format, are counted apart, and meet the cap once, all together.
     #[tactic(auto, using(crate::proofs::Progress::item_fits, crate::proofs::Progress::ends_past))]
     fn record_length(
         &self,
@@ -171,11 +180,16 @@ impl Measure<'_> {
             × KnownLengths self.now.printer.propositions known.new }
     {
         let mut length = 0;
+        let mut fixed = 0;
         for &b in format_of(kind_at(self.printer.records, n)) {
-            let item = self.item_length(n, b, lengths, known);
-            length = sum(length, item, self.cap);
+            if is_outside(b) {
+                fixed += 1;
+            } else {
+                let item = self.item_length(n, b, lengths, known);
+                length = sum(length, item, self.cap);
+            }
         }
-        length
+        sum(length, fixed, self.cap)
     }
 }
 
