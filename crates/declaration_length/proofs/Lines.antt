@@ -18,7 +18,7 @@ use Rattle.declarations.specs.Lines.{count_text, declaration, declaration_lines}
 use Rattle.declaration_length.proofs.Sorted.{bytes, one_more, joined}
 
 -- a number of 16 bits has five digits at the most
-few_digits : (n : ℕ) → n < 65536 → length (decimal n) ≤ 5
+pub few_digits : (n : ℕ) → n < 65536 → length (decimal n) ≤ 5
 few_digits n h = (least_digits n).least 5 (omega arith) (omega arith)
 
 -- and two brackets beside them

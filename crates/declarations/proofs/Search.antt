@@ -36,7 +36,7 @@ module _ (f : ℕ → Name) (u : AtomUse Name) where
   one_is (d ∷ declared) (suc j) h e = rw (one_is declared j (omega arith) e, or-true)
 
 -- names with the same bytes have the same slot, so a declaration with another slot is another
-other_slot : (f : ℕ → Name) (u : AtomUse ℕ) (d : Declaration) → (start_slot (f d.name) ≡ start_slot (f u.name) → ⊥)
+pub other_slot : (f : ℕ → Name) (u : AtomUse ℕ) (d : Declaration) → (start_slot (f d.name) ≡ start_slot (f u.name) → ⊥)
     → same_use (use_over f u) (use_in f d) ≡ false
 other_slot f u d other = equal_use (use_over f u) (use_in f d) ∙ go _ refl
   where

@@ -15,13 +15,13 @@ use Rattle.identifier_context.proofs.Contexts.{context_length, context_same}
 
 module _ (wanted : definition.Entry → Bool) (entries : List Entry) where
   -- the search passes an entry that the test refuses
-  search_passes : {i j : ℕ} → i ≡ suc j → wanted (entry_of (entry_at entries j)) ≡ false
+  pub search_passes : {i j : ℕ} → i ≡ suc j → wanted (entry_of (entry_at entries j)) ≡ false
       → latest_at wanted (context_of entries i) ≡ latest_at wanted (context_of entries j)
   unfolding latest_at context_of
   search_passes here e = rw (here, context_of, e)
 
   -- and ends at one that it admits
-  search_ends : {i j : ℕ} → i ≡ suc j → wanted (entry_of (entry_at entries j)) ≡ true → latest_at wanted (context_of entries i) ≡ Some j
+  pub search_ends : {i j : ℕ} → i ≡ suc j → wanted (entry_of (entry_at entries j)) ≡ true → latest_at wanted (context_of entries i) ≡ Some j
   unfolding latest_at context_of len
   search_ends {j} here e = rw (here, context_of, e, context_length entries j)
 

@@ -90,26 +90,26 @@ module _ (name_of : ℕ → Name) (entries : List Entry) where
       rw (context_length entries n, dropped n (n - i) (omega arith), back)
 
   -- before the oldest entry there is nothing to list
-  visible_none : (n : ℕ) → visible_before name_of (context_of entries n) 0 ≡ []
+  pub visible_none : (n : ℕ) → visible_before name_of (context_of entries n) 0 ≡ []
   unfolding context_of firsts_after
   visible_none n = visible_before_lem n 0 (omega arith)
 
   -- and past the latest there is no more
-  visible_within : (n i : ℕ) → visible_before name_of (context_of entries n) i ≡ visible_before name_of (context_of entries n) (min i n)
+  pub visible_within : (n i : ℕ) → visible_before name_of (context_of entries n) i ≡ visible_before name_of (context_of entries n) (min i n)
   unfolding visible_before len
   visible_within n i =
       let past : n - i ≡ n - min i n = omega arith in
       rw (context_length entries n, past)
 
   -- an entry that is hidden is passed over, and one that is visible is the next
-  visible_passed : (n : ℕ) {i j : ℕ} → i ≡ suc j → j < n → is_visible name_of entries n j ≡ false
+  pub visible_passed : (n : ℕ) {i j : ℕ} → i ≡ suc j → j < n → is_visible name_of entries n j ≡ false
       → visible_before name_of (context_of entries n) i ≡ visible_before name_of (context_of entries n) j
   unfolding is_visible context_of entry_in later
   visible_passed n {j} here h hidden =
       rw (here, visible_before_lem n (suc j) h, visible_before_lem n j (omega arith), later_more n j h)
       (passed_over name_of (later n (suc j)) (entry_in j) (context_of entries j) (not-false _ hidden))
 
-  visible_listed : (n : ℕ) {i j : ℕ} → i ≡ suc j → j < n → is_visible name_of entries n j ≡ true
+  pub visible_listed : (n : ℕ) {i j : ℕ} → i ≡ suc j → j < n → is_visible name_of entries n j ≡ true
       → visible_before name_of (context_of entries n) i ≡ entry_of (entry_at entries j) ∷ visible_before name_of (context_of entries n) j
   unfolding is_visible context_of entry_in later
   visible_listed n {j} here h shown =

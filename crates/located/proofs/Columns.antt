@@ -38,7 +38,7 @@ module _ {s : List ℕ} (has : HasHeader s (header_of s)) where
   whole_header = omega (arith, has.whole)
 
   -- reading it finds no byte missing
-  header_accepted : {r : Result Sheet Refusal} → r ≡ answered (header_of s) (short_check s) → r ≡ Ok (header_of s)
+  pub header_accepted : {r : Result Sheet Refusal} → r ≡ answered (header_of s) (short_check s) → r ≡ Ok (header_of s)
   unfolding answered short_check
   header_accepted e = e ∙ ap (answered (header_of s)) (sym (not_refused_if 1 0 (le-ltb _ _ whole_header)))
 

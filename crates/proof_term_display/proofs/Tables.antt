@@ -58,7 +58,7 @@ pub known_kind : (records : List ℕ) (n kind : ℕ) → kind ≡ field_at recor
 known_kind records n kind e h =
     rw e (record { known = rw e at h; holds = λ props. term_at_kind props records n refl; labels = λ label. refl })
 
-unknown_kind : (records : List ℕ) (n : ℕ) → 14 ≤ field_at records n 0 → KindAt records n 12
+pub unknown_kind : (records : List ℕ) (n : ℕ) → 14 ≤ field_at records n 0 → KindAt records n 12
 unfolding has_label
 unknown_kind records n past = record {
   known = omega arith;

@@ -27,7 +27,7 @@ module _ {names : ℕ} {pairs code : List ℕ} {c : Conclusion} (bytes : Bytes c
   present : (p : ℕ) → c ≡ PropIsTrue p → Present names code (pair_offset pairs p)
   present p h = present_in names pairs code p bytes (s.coded p h).decoded
 
-  readable : Readable pairs code c
+  pub readable : Readable pairs code c
   readable =
       record {
         paired = record {

@@ -35,7 +35,7 @@ same_number m n h = eqb-true m n (go (eqb m n) (rw (eq-eqb n n refl) at (h (λ i
     go false e = absurd (grind arith)
 
 -- a parameter's label that is a proposition of a number is that proposition's
-proposition_label : (l : Option own.Label) (number : ℕ)
+pub proposition_label : (l : Option own.Label) (number : ℕ)
     → ((props : ℕ → Prop ℕ) → of_label single (parameter_meant props l) ≡ single (proposition (props number))) → l ≡ Some (Proposition number)
 unfolding of_label
 proposition_label None number e =

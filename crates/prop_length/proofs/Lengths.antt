@@ -65,11 +65,11 @@ module _ (f : ℕ → Name) where
       rw (renamed_name p)
       (omega (arith, length-append (f (parameter_name p)) (others ++ (41 ∷ [])), length-append others (41 ∷ []), following_length ps))
 
-  atom_length : (a : ℕ) (ps : List (PropParameter ℕ)) → length (display_prop (rename_prop f (Atom a ps))) ≡ length (f a) + parameter_sum ps
+  pub atom_length : (a : ℕ) (ps : List (PropParameter ℕ)) → length (display_prop (rename_prop f (Atom a ps))) ≡ length (f a) + parameter_sum ps
   unfolding rename_prop display_prop
   atom_length a ps = omega (arith, length-append (f a) (display_parameters (map (rename_parameter f) ps)), parameters_length ps)
 
-  quantified_length : (q : Quantifier) (x t : ℕ) (p : Prop ℕ) →
+  pub quantified_length : (q : Quantifier) (x t : ℕ) (p : Prop ℕ) →
       length (display_prop (rename_prop f (Quantified q x t p))) ≡ length (f x) + length (f t) + 6 + length (display_prop (rename_prop f p))
   unfolding rename_prop display_prop
   quantified_length q x t p =

@@ -27,7 +27,7 @@ use Rattle.prop_numbers.proofs.Reps.{rep_wider}
 use Rattle.prop_numbers.specs.declared.Made.{Made}
 use Rattle.prop_numbers.specs.Standing.{standing, name_space, Rep, stands, made, in_front, connective_of, left_of, right_of}
 
-same_connective : (c d : proposition.Connective) → connective_byte c ≡ connective_byte d → c ≡ d
+pub same_connective : (c d : proposition.Connective) → connective_byte c ≡ connective_byte d → c ≡ d
 unfolding eq_connective
 same_connective c d e = eq_connective_true (eq-eqb (connective_byte c) (connective_byte d) e)
 

@@ -155,7 +155,7 @@ module _ {held : NameTable} {code : List ℕ} {after : NameTable} {bound bound' 
         answer = λ p s e. absurd (true≢false (sym own ∙ ap (λ (x : Shown (Prop Name)). x.own) (shown_same (sym reads ∙ e))));
       }
 
-  proposition_past : ((p : Prop Name) → read.size ≡ code_bytes p → read.nesting ≡ prop.nesting p → fits_label (table_names held) (proposition p) ≡ false)
+  pub proposition_past : ((p : Prop Name) → read.size ≡ code_bytes p → read.nesting ≡ prop.nesting p → fits_label (table_names held) (proposition p) ≡ false)
       → PropositionAnswer at held code to after code' None
   unfolding prop_levels standing
   proposition_past past =

@@ -60,7 +60,7 @@ module _ (s : List ℕ) where
   refuses_back e is before = rw (e, is) (record { answer = refl; memory = refl })
 
 -- a refusal of an exercise names no step, so it has no column
-no_step : (r : Refusal) → OfExercise r.number → located [] r ≡ record { refusal = r; column = 0 }
+pub no_step : (r : Refusal) → OfExercise r.number → located [] r ≡ record { refusal = r; column = 0 }
 unfolding located column_of names_step
 no_step r (inl e) = rw e
 no_step r (inr (inl e)) = rw e

@@ -14,7 +14,7 @@ use Rattle.judgement.specs.Answered.{judgement_of, Judges}
 use Rattle.skriduhol_terms.specs.Judged.{judged_of, JudgesOf}
 
 -- a refusal that the layer below answers is the outcome
-judgement_refused : {r : Refusal} (o : Outcome (rules.Judged (Unit {0}))) → Err r ≡ judgement_of o → o ≡ refused r
+pub judgement_refused : {r : Refusal} (o : Outcome (rules.Judged (Unit {0}))) → Err r ≡ judgement_of o → o ≡ refused r
 unfolding judgement_of
 judgement_refused (accepted (derived u)) e = cc
 judgement_refused (accepted (stopped n)) e = cc

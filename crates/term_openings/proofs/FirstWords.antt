@@ -99,7 +99,7 @@ module _ {what : List ℕ} {at start : ℕ} (held : NameTable) (expected : Expec
       let same : t ≡ drop start text = ap (λ (r : Read (Prim.Unit {0})). r.rest) (same_Some _ _ (sym before ∙ expected.reads)) in
       lacks (record { value = x; rest = rest }) (rw same at there)
 
-  name_there : {after : NameTable} {r : reader.NameRead} → NameGiven start held after r → ThereIs (NameThere what text at held after r)
+  pub name_there : {after : NameTable} {r : reader.NameRead} → NameGiven start held after r → ThereIs (NameThere what text at held after r)
   name_there {r = r} read =
       let place : start ≡ at + length what = expected.after in
       record {

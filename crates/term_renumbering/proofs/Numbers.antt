@@ -88,7 +88,7 @@ pub record Upto (f : ℕ → ℕ) (before : List ℕ) (m : ℕ) (records : List 
   pub ahead : (k i : ℕ) → m ≤ k → i < record_size → field_at records k i ≡ field_at before k i
 
 module _ (f : ℕ → ℕ) (before : List ℕ) where
-  one_over : {m : ℕ} {records after : List ℕ} → Upto f before m records → RecordOver f records m after → Upto f before (m + 1) after
+  pub one_over : {m : ℕ} {records after : List ℕ} → Upto f before m records → RecordOver f records m after → Upto f before (m + 1) after
   one_over {m} {records} {after} u r = record {
     done = λ k h. by_cases (dec_lt k m)
         (λ l.

@@ -19,7 +19,7 @@ use Rattle.term_stack.specs.Standing.{Scene, Extends, Stored}
 use Rattle.term_stack.proofs.Marked.{labels_both, code_node}
 
 -- numbers that are stored behind others
-sets_here : (l vs : List ℕ) (i n : ℕ) → i + length vs ≤ length l → n ≡ i + length vs → take n (sets l i vs) ≡ take i l ++ vs
+pub sets_here : (l vs : List ℕ) (i n : ℕ) → i + length vs ≤ length l → n ≡ i + length vs → take n (sets l i vs) ≡ take i l ++ vs
 sets_here l vs i n fits e =
     let front : length (take i l) ≡ i = length-take-le i l (omega (arith, fits)) in
     let long : length (take i l ++ vs) ≡ n = length-append (take i l) vs ∙ omega (arith, front, e) in

@@ -39,7 +39,7 @@ few_names has = has.in_range.names
 
 -- by the vocabulary of a sheet, its names and its propositions are the definitions' own
 module _ {s : List ℕ} {h : Sheet} (has : HasHeader s h) {words : Vocabulary} (same : words ≡ vocabulary_of h) where
-  names_cut : {pairs text : List ℕ} → pairs ≡ pairs_in s words → text ≡ text_in s words → name_in s words ≡ marked pairs text
+  pub names_cut : {pairs text : List ℕ} → pairs ≡ pairs_in s words → text ≡ text_in s words → name_in s words ≡ marked pairs text
   unfolding name_in
   names_cut cut cut-text = rw (cut, cut-text)
 
