@@ -48,12 +48,7 @@ impl Reason {
         requires { place < 65536 }
         ensures { result ≡ record { number = number_of self; place = place } }
     {
-        // A TryFrom would have a branch for what cannot come.
-        let place = place as u16;
-        Refusal {
-            number: self as u8,
-            place,
-        }
+        Refusal::at(self as u8, place)
     }
 }
 
@@ -63,6 +58,18 @@ impl Reason {
 pub struct Refusal {
     pub number: u8,
     pub place: u16,
+}
+
+impl Refusal {
+    // The refusal of a number at a place.
+    pub fn at(number: u8, place: usize) -> Self
+        requires { place < 65536 }
+        ensures { result ≡ record { number = number; place = place } }
+    {
+        // A TryFrom would have a branch for what cannot come.
+        let place = place as u16;
+        Self { number, place }
+    }
 }
 
 // As the programs print it, within a line.

@@ -15,7 +15,7 @@ ghost use Rattle.proof_term.specs.Tally.{tally_limit, sum_over, tally_over, Node
 ghost use Rattle.proof_term.specs.Making.{Pushed};
 
 pub use forms::Form;
-pub use nodes::{Kind, Label, Node, kind_at, label_at, node_at, parameter_at, parts_at};
+pub use nodes::{Kind, Label, Node, has_label, kind_at, label_at, node_at, parameter_at, parts_at};
 pub use term_records::TermRecords;
 
 // The numbers of a record. Records are rows of one memory of u16, as C is handed them: its promise and the definitions speak of one list

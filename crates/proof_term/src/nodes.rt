@@ -1,6 +1,7 @@
 // The kinds of records as values, and a record as a node of its term, with its parts, names and label by name.
 ghost use Rattle.std.specs.Prelude.{◌≡◌, ◌+◌, ◌*◌, ◌≤◌, length, get_or};
 ghost use Rattle.proof_term.specs.Records.{record_size, field_at, part_count};
+ghost use Rattle.proof_term.specs.Labels.{has_label};
 ghost use Rattle.proof_term.specs.Views.{label_numbers, node_kind, node_label, node_numbers, kind_number, kind_of, label_of_numbers, parameter_of_numbers, node_of, node_at, PartsOf};
 
 use crate::{DATATYPE, NO_LABEL, PROPOSITION, RECORD_SIZE, field};
@@ -303,6 +304,18 @@ pub fn kind_at(records: &[u16], n: usize) -> Kind
     ensures { result ≡ kind_of (field_at records.now n 0) }
 {
     Kind::of(field(records, n, 0))
+}
+
+// Whether a record has a label, by the number of its kind and that of its label's kind: an ascription, or a function whose parameter has
+// one.
+#[tactic(auto, unfolding(crate::specs::Labels::has_label))]
+pub fn has_label(kind: usize, label: usize) -> bool
+    ensures { result ≡ has_label kind label }
+{
+    if kind == Kind::TypeAscription as usize {
+        return true;
+    }
+    kind == Kind::Function as usize && label != usize::from(NO_LABEL)
 }
 
 // The label of record `n`, an ascription.
