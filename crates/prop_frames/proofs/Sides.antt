@@ -23,7 +23,7 @@ use Rattle.atom_reader.proofs.Sizes.{binary_bytes}
 
 -- The connective at a place, if it binds strongly enough: what a filter by a test of its strength leaves of the connective there.
 module _ (text : List ℕ) (at least : ℕ) where
-  none_there : connective (drop at text) ≡ None → goes_on least (drop at text) ≡ None
+  pub none_there : connective (drop at text) ≡ None → goes_on least (drop at text) ≡ None
   unfolding goes_on strong_enough
   none_there e = rw e refl
 

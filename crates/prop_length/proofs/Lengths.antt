@@ -41,7 +41,7 @@ short_name bytes v given n =
 -- Over any names:
 module _ (f : ℕ → Name) where
   -- what parameters add: each its name and two bytes
-  unfoldable parameter_sum : List (PropParameter ℕ) → ℕ
+  unfoldable pub parameter_sum : List (PropParameter ℕ) → ℕ
   parameter_sum [] = 0
   parameter_sum (p ∷ ps) = 2 + length (f (parameter_name p)) + parameter_sum ps
 

@@ -37,12 +37,14 @@ pub few_names : {s : List ℕ} {h : Sheet} → HasHeader s h → (vocabulary_of 
 unfolding vocabulary_of
 few_names has = has.in_range.names
 
+-- the pieces that a vocabulary marks are its names
+pub names_cut : {bytes : List ℕ} {words : Vocabulary} {pairs text : List ℕ} → pairs ≡ pairs_in bytes words → text ≡ text_in bytes words
+    → name_in bytes words ≡ marked pairs text
+unfolding name_in
+names_cut cut cut-text = rw (cut, cut-text)
+
 -- by the vocabulary of a sheet, its names and its propositions are the definitions' own
 module _ {s : List ℕ} {h : Sheet} (has : HasHeader s h) {words : Vocabulary} (same : words ≡ vocabulary_of h) where
-  pub names_cut : {pairs text : List ℕ} → pairs ≡ pairs_in s words → text ≡ text_in s words → name_in s words ≡ marked pairs text
-  unfolding name_in
-  names_cut cut cut-text = rw (cut, cut-text)
-
   pub names_are : name_in s words ≡ name_of s
   unfolding name_of
   names_are = names_cut (rw same (sym (pairs_are has))) (rw same (sym (text_is has)))
