@@ -38,16 +38,16 @@ unfolding vocabulary_of
 few_names has = has.in_range.names
 
 -- the pieces that a vocabulary marks are its names
-pub names_cut : {bytes : List ℕ} {words : Vocabulary} {pairs text : List ℕ} → pairs ≡ pairs_in bytes words → text ≡ text_in bytes words
+pub names_cut : (bytes : List ℕ) (words : Vocabulary) {pairs text : List ℕ} → pairs ≡ pairs_in bytes words → text ≡ text_in bytes words
     → name_in bytes words ≡ marked pairs text
 unfolding name_in
-names_cut cut cut-text = rw (cut, cut-text)
+names_cut bytes words cut cut-text = rw (cut, cut-text)
 
 -- by the vocabulary of a sheet, its names and its propositions are the definitions' own
 module _ {s : List ℕ} {h : Sheet} (has : HasHeader s h) {words : Vocabulary} (same : words ≡ vocabulary_of h) where
   pub names_are : name_in s words ≡ name_of s
   unfolding name_of
-  names_are = names_cut (rw same (sym (pairs_are has))) (rw same (sym (text_is has)))
+  names_are = names_cut s words (rw same (sym (pairs_are has))) (rw same (sym (text_is has)))
 
   props_cut : {count : ℕ} {code : List ℕ} → code ≡ code_in s words → count ≡ words.name_count → prop_in s words ≡ prop_at count code
   unfolding prop_in
